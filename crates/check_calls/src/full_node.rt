@@ -1,7 +1,7 @@
-use crate::playing::{equal, give, make, name_at, two_players};
+use crate::playing::{equal, give, make, name_at, two_limited};
 use hg_life::{Fault, MakeAnswer, MakeFault, PutAnswer};
 use hg_model::{Memory, Name};
-use hg_node::{Node, ROW_LIMIT};
+use hg_node::Node;
 use hg_sign::MacTable;
 use std::process::Abort;
 
@@ -17,6 +17,9 @@ pub(crate) fn make_rows(
     Ok(())
 }
 
+/// How many rows the nodes hold here.
+const LIMIT: usize = 16_384;
+
 /// A's rows come to 16,384; B has an event that A does not.
 fn fill(rt: &impl Abort, a: &mut Node<MacTable>, b: &mut Node<MacTable>) -> Result<(), Memory> {
     make(rt, a, None, 1, MakeAnswer::Made(0))?;
@@ -24,7 +27,7 @@ fn fill(rt: &impl Abort, a: &mut Node<MacTable>, b: &mut Node<MacTable>) -> Resu
     give(rt, b, 0, a, PutAnswer::Accepted(1))?;
     give(rt, a, 0, b, PutAnswer::Accepted(1))?;
     make(rt, b, Some(name_at(rt, a, 0)), 3, MakeAnswer::Made(2))?;
-    make_rows(a, name_at(rt, b, 0), ROW_LIMIT - 2)?;
+    make_rows(a, name_at(rt, b, 0), LIMIT - 2)?;
     equal(rt, a.rows(), 16_384);
     Ok(())
 }
@@ -40,7 +43,7 @@ fn overfill(rt: &impl Abort, a: &mut Node<MacTable>, b: &Node<MacTable>) -> Resu
 
 #[test]
 fn takes_no_row_more_where_it_is_full(rt: HostRuntime) -> Result<(), Memory> {
-    let (mut a, mut b) = two_players(&rt, rt.alloc())?;
+    let (mut a, mut b) = two_limited(&rt, rt.alloc(), LIMIT)?;
     fill(&rt, &mut a.node, &mut b.node)?;
     overfill(&rt, &mut a.node, &b.node)
 }

@@ -10,7 +10,7 @@ use Rattle.hg_frozen.specs.View.{FrozenView}
 use Rattle.hg_life.specs.History.{Change}
 use Rattle.hg_life.specs.declared.answers.MakeAnswer.{MakeAnswer}
 use Rattle.hg_life.specs.Calls.{IsMaking, make_changes}
-use Rattle.hg_life.specs.NodeView.{NodeView, IsNode, node_rows, with_changes}
+use Rattle.hg_life.specs.NodeView.{NodeView, IsNode, node_rows, with_changes, terms_of}
 use Rattle.hg_life.specs.Signing.{Accepts}
 use Rattle.hg_history.specs.Laws.{FoundLasts, LinksAreThoseOfTheRows}
 use Rattle.check_graphs.specs.Moments.{IsFrozenOf, IsMomentOf}
@@ -25,7 +25,7 @@ speaks_now accepts v g node law same len share found speaks =
     let c = v.start.coin in
     let G = node_rows v in
     let now : Speaks n c G (links G) len share found = subst (λ (h : Graph). Speaks h.members h.coin h.rows (links h.rows) len share found) same speaks in
-    subst (λ (L : List Link). Speaks n c G L len share found) (sym (law (accepts v.start.keys) n c v.start.own v.history node.coin node.history)) now
+    subst (λ (L : List Link). Speaks n c G L len share found) (sym (law (terms_of accepts v.start) n c v.start.own v.history node.coin node.history)) now
 
 pub speaks_after : {K R E : Type 0} (v w : NodeView K) (es : List Change) (r : Result R E) → OnOk r (w ≡ with_changes v es) → OnErr r (w ≡ v) → FoundLasts →
     (fs : List FrozenView) → All (IsFrozenOf v) fs → All (IsFrozenOf w) fs

@@ -70,7 +70,7 @@ fn shares_sealed_blocks(rt: HostRuntime) -> Result<(), Memory> {
 }
 
 /// 130 rows, of which row x is x and 1,000 more.
-fn pairs(alloc: Global) -> Result<RowBlocks, Memory>
+fn pairs(alloc: Global) -> Result<RowBlocks<u16>, Memory>
     ensures width { IfOk result (λ rows. rows.width ≡ 2) }
     ensures long { IfOk result (λ rows. length rows.numbers ≡ 260) }
 {

@@ -82,7 +82,7 @@ pub(crate) fn add<S: Growing>(
     creator: Member,
 ) -> Result<bool, Memory> {
     sight.reserve()?;
-    if sight.rows() > 1000 || !fits(&*sight, parents, creator) {
+    if sight.rows() > 100_000 || !fits(&*sight, parents, creator) {
         return Ok(false);
     }
     sight.extend(parents, creator);

@@ -40,3 +40,5 @@ mod rounds;
 mod telling;
 #[cfg(test)]
 mod votes;
+#[cfg(test)]
+mod wide;

@@ -9,7 +9,7 @@ use Rattle.std.specs.Global.{Vec}
 use Rattle.hg_blocks.specs.Rows.{HasRows, HoldsRows, joined_rows, numbers_of}
 use Rattle.hg_blocks.proofs.Flat.{length_flat, take_flat, list_flat, rest_flat}
 
-nil : (xs : List ℕ) → length xs ≤ 0 → xs ≡ []
+nil : {T : Type 0} (xs : List T) → length xs ≤ 0 → xs ≡ []
 nil [] h = refl
 nil (x ∷ xs) h = absurd (omega arith)
 
@@ -30,31 +30,31 @@ capped w k le = elim (cases_lt 0 w) [
   | inr none ↦ (let gone : w ≡ 0 = omega arith in rw gone (omega arith))
 ]
 
-module _ {A : Type 0} (w : ℕ) where
-  pub all_push : (sealed : List (Arc (Vec ℕ) A)) (block : Arc (Vec ℕ) A) → AllByRecursion (HasRows w) sealed → HasRows w block → AllByRecursion (HasRows w) (sealed ++ block ∷ [])
+module _ {T A : Type 0} (w : ℕ) where
+  pub all_push : (sealed : List (Arc (Vec T) A)) (block : Arc (Vec T) A) → AllByRecursion (HasRows w) sealed → HasRows w block → AllByRecursion (HasRows w) (sealed ++ block ∷ [])
   all_push [] block full one = (one, tt)
   all_push (b ∷ sealed) block full one = (full.0, all_push sealed block full.1 one)
 
-  all_take : (sealed : List (Arc (Vec ℕ) A)) (n : ℕ) → AllByRecursion (HasRows w) sealed → AllByRecursion (HasRows w) (take n sealed)
+  all_take : (sealed : List (Arc (Vec T) A)) (n : ℕ) → AllByRecursion (HasRows w) sealed → AllByRecursion (HasRows w) (take n sealed)
   all_take sealed zero full = tt
   all_take [] (suc n) full = tt
   all_take (b ∷ sealed) (suc n) full = (full.0, all_take sealed n full.1)
 
   -- shared blocks have the same numbers
-  all_same : (ones others : List (Arc (Vec ℕ) A)) → AllZip (λ (one other : Arc (Vec ℕ) A). other.value ≡ one.value) ones others → AllByRecursion (HasRows w) ones → AllByRecursion (HasRows w) others
+  all_same : (ones others : List (Arc (Vec T) A)) → AllZip (λ (one other : Arc (Vec T) A). other.value ≡ one.value) ones others → AllByRecursion (HasRows w) ones → AllByRecursion (HasRows w) others
   all_same [] [] same full = tt
   all_same [] (other ∷ others) same full = elim same [ ]
   all_same (one ∷ ones) [] same full = elim same [ ]
-  all_same (one ∷ ones) (other ∷ others) same full = (ap (λ (v : Vec ℕ). length v.items) same.0 ∙ full.0, all_same ones others same.1 full.1)
+  all_same (one ∷ ones) (other ∷ others) same full = (ap (λ (v : Vec T). length v.items) same.0 ∙ full.0, all_same ones others same.1 full.1)
 
-  same_numbers : (ones others : List (Arc (Vec ℕ) A)) → AllZip (λ (one other : Arc (Vec ℕ) A). other.value ≡ one.value) ones others → flat_map numbers_of others ≡ flat_map numbers_of ones
+  same_numbers : (ones others : List (Arc (Vec T) A)) → AllZip (λ (one other : Arc (Vec T) A). other.value ≡ one.value) ones others → flat_map numbers_of others ≡ flat_map numbers_of ones
   same_numbers [] [] same = refl
   same_numbers [] (other ∷ others) same = elim same [ ]
   same_numbers (one ∷ ones) [] same = elim same [ ]
-  same_numbers (one ∷ ones) (other ∷ others) same = ap₂ (λ xs ys. xs ++ ys) (ap (λ (v : Vec ℕ). v.items) same.0) (same_numbers ones others same.1)
+  same_numbers (one ∷ ones) (other ∷ others) same = ap₂ (λ xs ys. xs ++ ys) (ap (λ (v : Vec T). v.items) same.0) (same_numbers ones others same.1)
 
-  module _ (sealed : List (Arc (Vec ℕ) A)) (tail : List ℕ) (full : AllByRecursion (HasRows w) sealed) where
-    pub block_at : (n : ℕ) (e : Arc (Vec ℕ) A) → n < length sealed → take (64 * w) (drop (64 * w * n) (joined_rows sealed tail)) ≡ numbers_of (get_or sealed n e)
+  module _ (sealed : List (Arc (Vec T) A)) (tail : List T) (full : AllByRecursion (HasRows w) sealed) where
+    pub block_at : (n : ℕ) (e : Arc (Vec T) A) → n < length sealed → take (64 * w) (drop (64 * w * n) (joined_rows sealed tail)) ≡ numbers_of (get_or sealed n e)
     block_at n e lt = list_flat numbers_of (64 * w) sealed tail n e full lt
 
     pub tail_at : (n : ℕ) → length tail ≤ 64 * w → length sealed ≤ n → (0 < w → n ≤ length sealed) → tail ≡ take (64 * w) (drop (64 * w * n) (joined_rows sealed tail))
@@ -91,7 +91,7 @@ module _ {A : Type 0} (w : ℕ) where
             let more = mul-le-mul_right {m = x % 64 + 1} {n = 64} w (omega arith) in
             omega (arith, place, length-take (64 * w) (drop (64 * w * (x / 64)) all), length-drop (64 * w * (x / 64)) all))
 
-        pub read_row : (b d : ℕ) → b < w → get_or (take w (drop (x % 64 * w) (take (64 * w) (drop (64 * w * (x / 64)) (joined_rows sealed tail))))) b d ≡ get_or (joined_rows sealed tail) (x * w + b) d
+        pub read_row : (b : ℕ) (d : T) → b < w → get_or (take w (drop (x % 64 * w) (take (64 * w) (drop (64 * w * (x / 64)) (joined_rows sealed tail))))) b d ≡ get_or (joined_rows sealed tail) (x * w + b) d
         read_row b d lt =
             let all = joined_rows sealed tail in
             let more = mul-le-mul_right {m = x % 64 + 1} {n = 64} w (omega arith) in
@@ -127,7 +127,7 @@ module _ {A : Type 0} (w : ℕ) where
             omega (arith, open_few, split, length-take (64 * w) (drop n (joined_rows sealed tail)), length-drop n (joined_rows sealed tail))
 
         -- the first blocks, each shared, and the first rows of the next one
-        pub first_numbers : (shared : List (Arc (Vec ℕ) A)) → AllZip (λ (one other : Arc (Vec ℕ) A). other.value ≡ one.value) (take (min ((len - 1) / 64) (length sealed)) sealed) shared →
+        pub first_numbers : (shared : List (Arc (Vec T) A)) → AllZip (λ (one other : Arc (Vec T) A). other.value ≡ one.value) (take (min ((len - 1) / 64) (length sealed)) sealed) shared →
             joined_rows shared (take ((len - 64 * min ((len - 1) / 64) (length sealed)) * w) (take (64 * w) (drop (64 * w * min ((len - 1) / 64) (length sealed)) (joined_rows sealed tail)))) ≡ take (len * w) (joined_rows sealed tail)
         first_numbers shared same =
             let c = min ((len - 1) / 64) (length sealed) in
@@ -139,7 +139,7 @@ module _ {A : Type 0} (w : ℕ) where
             (take-take right (64 * w) (drop left all) open_few ∙ sym (drop-take left right all))
             ∙ (take-append-drop left (take (left + right) all) ∙ ap (λ n. take n all) split)
 
-        pub first_holds : (shared : List (Arc (Vec ℕ) A)) → AllZip (λ (one other : Arc (Vec ℕ) A). other.value ≡ one.value) (take (min ((len - 1) / 64) (length sealed)) sealed) shared →
+        pub first_holds : (shared : List (Arc (Vec T) A)) → AllZip (λ (one other : Arc (Vec T) A). other.value ≡ one.value) (take (min ((len - 1) / 64) (length sealed)) sealed) shared →
             HoldsRows w shared (take ((len - 64 * min ((len - 1) / 64) (length sealed)) * w) (take (64 * w) (drop (64 * w * min ((len - 1) / 64) (length sealed)) (joined_rows sealed tail))))
         first_holds shared same =
             let c = min ((len - 1) / 64) (length sealed) in

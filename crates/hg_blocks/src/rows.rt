@@ -1,4 +1,4 @@
-ghost use Rattle.std.specs.Prelude.{◌≡◌, ◌<◌, ◌≤◌, ◌+◌, ◌*◌, ℕ, [], ◌++◌, length, take, drop, slice_index, IfOk, OnOk, OnErr};
+ghost use Rattle.std.specs.Prelude.{◌≡◌, ◌<◌, ◌≤◌, ◌+◌, ◌*◌, ℕ, [], ◌++◌, length, take, drop, slice_index_or, IfOk, OnOk, OnErr};
 ghost use Rattle.std.specs.List.{AllByRecursion};
 ghost use Rattle.hg_blocks.specs.Rows.{HasRows, SealsRows, joined_rows};
 
@@ -11,26 +11,26 @@ use std::sync::Arc;
 /// Rows of so many numbers each, one after the other, in sealed blocks of 64 rows, which prefixes share, and an open tail of
 /// at most 64.
 #[derive(Drop)]
-pub struct RowBlocks {
+pub struct RowBlocks<T> {
     width: usize,
-    sealed: Vec<Arc<Vec<u16>>>,
-    tail: Vec<u16>,
+    sealed: Vec<Arc<Vec<T>>>,
+    tail: Vec<T>,
 }
 
-impl Model for RowBlocks {
+impl<T> Model for RowBlocks<T> {
     ghost use Rattle.std.specs.Prelude.{vec_capacity};
     ghost use Rattle.hg_blocks.specs.Rows.{HoldsRows, RowsWithRoom, joined_rows, row_room};
 
-    ghost Value = { RowsWithRoom };
+    ghost Value = { RowsWithRoom T };
 
     ghost view = { λ s. record { width = s.width; numbers = joined_rows s.sealed.items s.tail.items; room = row_room s.width s.tail.items (vec_capacity s.tail) } };
 
     ghost invariant = { λ s. HoldsRows s.width s.sealed.items s.tail.items };
 }
 
-impl RowBlocks {
+impl<T: Copy> RowBlocks<T> {
     /// No rows of so many numbers. Takes no memory.
-    pub fn new(alloc: Global, width: usize) -> RowBlocks
+    pub fn new(alloc: Global, width: usize) -> RowBlocks<T>
         ensures numbers { result.numbers ≡ [] }
         ensures width { result.width ≡ width }
     {
@@ -49,9 +49,9 @@ impl RowBlocks {
     }
 
     /// Row `x`.
-    pub fn row(&self, x: usize) -> &[u16]
+    pub fn row(&self, x: usize) -> &[T]
         requires { x * self.now.width + self.now.width ≤ length self.now.numbers }
-        ensures value { (b : ℕ) → b < self.now.width → slice_index result.now b ≡ slice_index self.now.numbers (x * self.now.width + b) }
+        ensures value { (b : ℕ) (d : T) → b < self.now.width → slice_index_or result.now b d ≡ slice_index_or self.now.numbers (x * self.now.width + b) d }
         ensures len { length result.now ≡ self.now.width }
     {
         row_in(
@@ -78,7 +78,7 @@ impl RowBlocks {
     }
 
     /// One more row. Takes no memory.
-    pub fn push(&mut self, row: &[u16])
+    pub fn push(&mut self, row: &[T])
         requires room { 1 ≤ self.old.room }
         requires whole { length row.now ≡ self.old.width }
         ensures numbers { self.new.numbers ≡ self.old.numbers ++ row.now }
@@ -88,7 +88,7 @@ impl RowBlocks {
     }
 
     /// The first `len` rows, as a value of its own: it shares the sealed blocks, and copies at most 64 rows.
-    pub fn prefix(&self, len: usize) -> Result<RowBlocks, Memory>
+    pub fn prefix(&self, len: usize) -> Result<RowBlocks<T>, Memory>
         requires { len * self.now.width ≤ length self.now.numbers }
         ensures numbers { IfOk result (λ first. first.numbers ≡ take (len * self.now.width) self.now.numbers) }
         ensures width { IfOk result (λ first. first.width ≡ self.now.width) }
@@ -106,7 +106,7 @@ impl RowBlocks {
 }
 
 /// The numbers of sealed block number `block`, or those of the tail behind the last one.
-fn chunk<'a>(sealed: &'a [Arc<Vec<u16>>], tail: &'a [u16], width: usize, block: usize) -> &'a [u16]
+fn chunk<'a, T>(sealed: &'a [Arc<Vec<T>>], tail: &'a [T], width: usize, block: usize) -> &'a [T]
     requires full { AllByRecursion (HasRows width) sealed.now }
     requires few { length tail.now ≤ 64 * width }
     requires place { 0 < width → block ≤ length sealed.now }
@@ -120,7 +120,7 @@ fn chunk<'a>(sealed: &'a [Arc<Vec<u16>>], tail: &'a [u16], width: usize, block: 
 }
 
 /// Row `i` of these numbers.
-fn row_in(numbers: &[u16], width: usize, i: usize) -> &[u16]
+fn row_in<T>(numbers: &[T], width: usize, i: usize) -> &[T]
     requires { i * width + width ≤ length numbers.now }
     ensures { result.now ≡ take width (drop (i * width) numbers.now) }
 {
@@ -129,7 +129,7 @@ fn row_in(numbers: &[u16], width: usize, i: usize) -> &[u16]
 }
 
 /// The first rows of these numbers.
-fn first_rows(numbers: &[u16], width: usize, count: usize) -> &[u16]
+fn first_rows<T>(numbers: &[T], width: usize, count: usize) -> &[T]
     requires { count * width ≤ length numbers.now }
     ensures { result.now ≡ take (count * width) numbers.now }
 {
@@ -137,7 +137,7 @@ fn first_rows(numbers: &[u16], width: usize, count: usize) -> &[u16]
 }
 
 /// Seals a full tail: a block more, and an empty tail without memory. After want of memory it is as it was.
-fn seal(sealed: &mut Vec<Arc<Vec<u16>>>, tail: &mut Vec<u16>) -> Result<(), Memory>
+fn seal<T: Drop>(sealed: &mut Vec<Arc<Vec<T>>>, tail: &mut Vec<T>) -> Result<(), Memory>
     ensures same { joined_rows sealed.new.items tail.new.items ≡ joined_rows sealed.old.items tail.old.items }
     ensures sealed { OnOk result (SealsRows sealed.old.items sealed.new.items tail.old.items) }
     ensures empty { OnOk result (tail.new.items ≡ []) }

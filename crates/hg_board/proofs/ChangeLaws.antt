@@ -85,7 +85,7 @@ other_puts_add_none V accepts p old new bytes answer puts other =
 -- an event that is made has no fault before it is signed
 drafted : {V : Type 0} (v : NodeView V) (others : List (List ℕ)) (time : ℕ) (payload sig : List ℕ) (place : ℕ) → make_answer v others time payload sig ≡ made.Made place → make_draft v others payload ≡ None
 unfolding make_draft make_answer
-drafted v others time payload sig place is = made_draft v.start.own (node_rows v) others time payload sig place is
+drafted v others time payload sig place is = made_draft v.start.limit v.start.own (node_rows v) others time payload sig place is
 
 refused_made : (fault : MakeFault) (place : ℕ) → made.Refused fault ≡ made.Made place → ⊥
 refused_made fault place e = cc

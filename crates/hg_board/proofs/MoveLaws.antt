@@ -9,7 +9,7 @@ use Rattle.atomic_table.specs.Table.{State, step, Act, keeps, takes, gives, Vali
 use Rattle.atomic_table.proofs.Lists.{at_set, set_else, set_again, at_snoc, exchanged}
 use Rattle.hg_model.specs.Orders.{IsPrefix}
 use Rattle.hg_life.specs.History.{Change}
-use Rattle.hg_life.specs.NodeView.{NodeView, IsNode}
+use Rattle.hg_life.specs.NodeView.{NodeView, IsNode, terms_of}
 use Rattle.hg_life.specs.Signing.{Accepts}
 use Rattle.hg_history.proofs.SoundLaws.{moment}
 use Rattle.hg_history.proofs.StateLaws.{prefix_more}
@@ -33,7 +33,8 @@ node_earlier {V} accepts start seen history first node = record {
   few_members = node.few_members;
   coin = node.coin;
   balances = node.balances;
-  history = moment (accepts start.start.keys) start.start.members start.start.coin start.start.own seen first.0
+  limit = node.limit;
+  history = moment (terms_of accepts start.start) start.start.members start.start.coin start.start.own seen first.0
       (subst (λ (h : List Change). IsNode accepts (node_at start h)) first.1 node).history;
 }
 

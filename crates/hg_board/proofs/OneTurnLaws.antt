@@ -12,7 +12,7 @@ use Rattle.hg_model.specs.Held.{lacking, is_held}
 use Rattle.hg_model.specs.Graph.{HasDistinctNames, name_at}
 use Rattle.hg_life.specs.History.{Change, State}
 use Rattle.hg_life.specs.History.Change.{Took}
-use Rattle.hg_life.specs.NodeView.{NodeView, node_rows, with_changes}
+use Rattle.hg_life.specs.NodeView.{NodeView, node_rows, with_changes, terms_of}
 use Rattle.hg_life.specs.Calls.{put_changes, taken_by, taken_from}
 use Rattle.hg_life.specs.Signing.{Accepts}
 use Rattle.hg_life.specs.Spelling.{Spells, spelling}
@@ -71,14 +71,14 @@ module _ {K : Type 0} (accepts : K → Accepts) where
   held_after v row (Known p) name apart = ap (λ (h : List Change). is_held (node_rows (node_at v h)) name) (append-nil v.history)
   held_after v row (Refused f) name apart = ap (λ (h : List Change). is_held (node_rows (node_at v h)) name) (append-nil v.history)
 
-  changes_are : (v : NodeView K) (row : Row) → Spells (spelling row) row → put_changes accepts v (spelling row) ≡ taken_by (row_verdict (accepts v.start.keys) v.start.members v.start.own (node_rows v) row) row
+  changes_are : (v : NodeView K) (row : Row) → Spells (spelling row) row → put_changes accepts v (spelling row) ≡ taken_by (row_verdict (terms_of accepts v.start) v.start.members v.start.own (node_rows v) row) row
   unfolding put_changes
   changes_are v row spells = ap (taken_from accepts v) (Spells-read_event (spelling row) row spells)
 
   held_next : (t : Taking K) (row : Row) → Spells (spelling row) row → (name : List ℕ) → (name ≡ row.name → ⊥) → is_held (node_rows (take_event accepts t (spelling row)).node) name ≡ is_held (node_rows t.node) name
   held_next t row spells name apart =
       ap (λ (es : List Change). is_held (node_rows (with_changes t.node es)) name) (changes_are t.node row spells)
-      ∙ held_after t.node row (row_verdict (accepts t.node.start.keys) t.node.start.members t.node.start.own (node_rows t.node) row) name apart
+      ∙ held_after t.node row (row_verdict (terms_of accepts t.node.start) t.node.start.members t.node.start.own (node_rows t.node) row) name apart
 
   -- the node has the same of these names as the rows G
   abbrev Alike : Taking K → List Row → Row → Type 0

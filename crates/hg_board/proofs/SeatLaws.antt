@@ -18,7 +18,7 @@ use Rattle.hg_model.specs.Shares.{Share}
 use Rattle.hg_life.specs.Verdict.{made_row, row_verdict}
 use Rattle.hg_life.specs.History.{Change}
 use Rattle.hg_life.specs.History.Change.{Marked}
-use Rattle.hg_life.specs.NodeView.{NodeView, IsNode, node_rows, with_changes}
+use Rattle.hg_life.specs.NodeView.{NodeView, IsNode, node_rows, with_changes, terms_of}
 use Rattle.hg_life.specs.Calls.{IsMaking, made_by, make_answer, make_changes, publish_answer, publish_changes, put_answer, put_changes, taken_by, taken_from}
 use Rattle.hg_life.specs.Signing.{Accepts}
 use Rattle.hg_node.specs.ChronicleView.{IsFoundBy}
@@ -51,7 +51,7 @@ few_taken (Refused f) row = omega arith
 
 few_read : {V : Type 0} (accepts : V → Accepts) (v : NodeView V) (read : Result Row ByteFault) → length (taken_from accepts v read) ≤ 1
 few_read accepts v (Err e) = omega arith
-few_read accepts v (Ok row) = few_taken (row_verdict (accepts v.start.keys) v.start.members v.start.own (node_rows v) row) row
+few_read accepts v (Ok row) = few_taken (row_verdict (terms_of accepts v.start) v.start.members v.start.own (node_rows v) row) row
 
 few_put : {V : Type 0} (accepts : V → Accepts) (v : NodeView V) (bytes : List ℕ) → length (put_changes accepts v bytes) ≤ 1
 unfolding put_changes

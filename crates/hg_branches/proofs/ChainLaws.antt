@@ -1,5 +1,6 @@
 -- The landmarks of each branch, when one more is landmarks, and when the next row is noted
-use Rattle.std.proofs.Common.{◌≡◌, ℕ, ◌+◌, ◌-◌, ◌<◌, ◌≤◌, List, [], ◌∷◌, ◌++◌, length, get_or, replicate, slice_index, slice_set, sym, ap, ◌∙◌, subst, refl, inl, inr, arith}
+use Rattle.std.proofs.Common.{◌≡◌, ℕ, ◌+◌, ◌-◌, ◌<◌, ◌≤◌, List, [], ◌∷◌, ◌++◌, length, get_or, replicate, slice_index, slice_set, take, drop, sym, ap, ◌∙◌, subst, refl, inl, inr, arith}
+use Rattle.std.proofs.Math.Seq.{take-append_seam}
 use Rattle.std.proofs.lemmas.Bool.{cases_eq, cases_lt}
 use Rattle.std.proofs.lemmas.List.{length_push, length-replicate, get_or-replicate, get_or-set_same, get_or-set_other, get_or_append_left, get_or_push, get_or_past}
 use Rattle.hg_branches.specs.declared.landmarks.NextRow.{NextRow}
@@ -174,3 +175,7 @@ module _ (old : List LandmarkView) (k : LandmarkView) (chains : HoldsChains old)
         let was = numbers_noted old (old ++ k ∷ []) stays (omega (arith, length_push old k)) numbers holds z (omega arith) in
         (subst (λ j. j ≤ length (old ++ k ∷ [])) (sym is) was.0, subst (λ j. (landmark_at (old ++ k ∷ []) (j - 1)).end ≡ z + 1) (sym is) was.1))
   ]
+
+-- a list of which each place was written
+pub refilled : (n : ℕ) (new old : List LandmarkView) → length new ≡ n → take n (new ++ drop (length new) old) ≡ new
+refilled n new old long = ap (λ k. take k (new ++ drop (length new) old)) (sym long) ∙ take-append_seam new (drop (length new) old)

@@ -96,7 +96,7 @@ module _ (n : Stakes) (L : List Link) (branches makers ends : List ℕ) (held : 
       on_line = λ z h on. serves.on_line z h (on ∙ branch_last);
     }
 
-    pub branches_hold : length L + 1 < 2 ^ 16 - 1 → HoldsBranches n grown branches_grown makers_grown ends_grown
+    pub branches_hold : length L + 1 < 2 ^ 32 - 1 → HoldsBranches n grown branches_grown makers_grown ends_grown
     branches_hold short =
         let len : length grown ≡ length L + 1 = length_push L link in
         let more = makers_more makers b link.creator in_reach in

@@ -1,6 +1,5 @@
 -- The first descendants that are landmarks once a row has come, and what they tell
-use Rattle.std.proofs.Common.{◌≡◌, ◌≢◌, ℕ, ◌+◌, ◌-◌, ◌<◌, ◌≤◌, ◌^◌, ◌||◌, ◌&&◌, eqb, nat_lt, nat_le, not, true, false, Bool, cond, min, List, [], ◌∷◌, ◌++◌, length, get_or, replicate, slice_index, slice_set, take, drop, sym, ap, ◌∙◌, subst, inl, inr, arith}
-use Rattle.std.proofs.Math.Seq.{take-append_seam}
+use Rattle.std.proofs.Common.{◌≡◌, ◌≢◌, ℕ, ◌+◌, ◌-◌, ◌<◌, ◌≤◌, ◌^◌, ◌||◌, ◌&&◌, eqb, nat_lt, nat_le, not, true, false, Bool, cond, min, List, [], ◌∷◌, ◌++◌, length, get_or, replicate, slice_index, slice_set, sym, ap, ◌∙◌, subst, inl, inr, arith}
 use Rattle.std.proofs.lemmas.Bool.{cases_eq, cases_lt, cases_Bool, and_parts, and_from, or_cases, or_left, or_right, ltb-true, lt-ltb, leb-true, le-leb, eqb-true, eq-eqb, not-true, not_from_false, false_from_ne_true, both_ways}
 use Rattle.std.proofs.lemmas.List.{length_push, length-set, length-replicate, get_or-set_same, get_or-set_other, get_or_append_left, get_or_push, get_or_past}
 use Rattle.hg_model.specs.Places.{weight_below, some_below}
@@ -18,7 +17,7 @@ use Rattle.hg_branches.specs.declared.landmarks.NextRow.{NextRow}
 use Rattle.hg_branches.specs.Branches.{Branching, CountsAncestors, FirstDescendants, greatest_count}
 use Rattle.hg_branches.specs.Rows.{known_place}
 use Rattle.hg_branches.specs.Columns.{branching_of, count_in, next_branch, put_at, HoldsBranches, HoldsCounts, with_branch}
-use Rattle.hg_branches.specs.Landmarks.{LandmarkView, landmark_at, no_first, no_landmark, is_first, is_reached, noted, noted_once, with_stake, AreNotedOn, IsLastOn, IsWeighed, HoldsFirsts, HoldsLandmarks, HoldsTops}
+use Rattle.hg_branches.specs.Landmarks.{LandmarkView, landmark_at, no_landmark, is_first, is_reached, noted, noted_once, with_stake, AreNotedOn, IsLastOn, IsWeighed, HoldsFirsts, HoldsLandmarks, HoldsTops}
 use Rattle.hg_branches.specs.Lines.{sees_on, own_sees, others_see}
 use Rattle.hg_branches.proofs.FirstLaws.{firsts_begin, firsts_next}
 use Rattle.hg_branches.proofs.ReachedLaws.{alone_reached, one_more_reached}
@@ -47,7 +46,7 @@ module _ (count : ℕ) (next : NextRow) (k : LandmarkView) where
 
   -- nothing, where the row is no first descendant there
   pub noted_same : is_first count next k ≡ false → after ≡ k
-  noted_same h = ap (λ c. record { end = k.end; branch = k.branch; before = k.before; firsts = cond c set k.firsts; reached = cond c (with_stake k.reached next.stake) k.reached }) h
+  noted_same h = ap (λ c. record { end = k.end; branch = k.branch; before = k.before; none = k.none; firsts = cond c set k.firsts; reached = cond c (with_stake k.reached next.stake) k.reached }) h
 
   first_left : is_first count next k ≡ false → after.firsts ≡ k.firsts
   first_left h = ap (λ (k : LandmarkView). k.firsts) (noted_same h)
@@ -101,14 +100,14 @@ module _ (count : ℕ) (next : NextRow) (k : LandmarkView) where
   weighed_noted n low enough weighed = elim (cases_Bool (is_first count next k)) [
     | inl first ↦
         (let sum : after.reached ≡ with_stake k.reached next.stake = ap (λ c. cond c (with_stake k.reached next.stake) k.reached) first in
-        let one = one_more_reached n next.branch k.firsts after.firsts noted_other in
-        omega (arith, sum, one, low, enough, weighed, stake_where-total n (is_reached after.firsts)))
+        let one = one_more_reached n k.none next.branch k.firsts after.firsts noted_other in
+        omega (arith, sum, one, low, enough, weighed, stake_where-total n (is_reached k.none after.firsts)))
     | inr not_first ↦ subst (IsWeighed n) (sym (noted_same not_first)) weighed
   ]
 
 module _ (n : Stakes) (L : List Link) (branches makers ends : List ℕ) (held : HoldsBranches n L branches makers ends) (low : total n ≤ 2 ^ 39) (link : Link) (fits : FitsLink n L link)
     (b : ℕ) (serves : Serves L branches makers link b) (row : List ℕ) (counted : CountsAncestors (L ++ link ∷ []) (branching_of (branches ++ b ∷ []) (with_branch makers b link.creator)) (length L) (slice_index row))
-    (short : length L + 1 < 2 ^ 16 - 1) where
+    (short : length L + 1 < 2 ^ 32 - 1) where
   abbrev C : Branching
   C = branching_of (branches ++ b ∷ []) (with_branch makers b link.creator)
 
@@ -128,8 +127,8 @@ module _ (n : Stakes) (L : List Link) (branches makers ends : List ℕ) (held : 
   enough = subst (λ m. stake_of n b ≤ stake_of n m) (maker_of_last n L branches makers ends held link fits b serves)
       (own_stake n (L ++ link ∷ []) (branches ++ b ∷ []) (with_branch makers b link.creator) (put_at ends b (length L + 1)) (branches_hold n L branches makers ends held link fits b serves short) b)
 
-  pub holds_noted : (k : LandmarkView) → HoldsFirsts n L branches makers k → HoldsFirsts n (L ++ link ∷ []) (branches ++ b ∷ []) (with_branch makers b link.creator) (noted row next k)
-  holds_noted k holds =
+  pub holds_noted : (k : LandmarkView) → length L + 1 < k.none → HoldsFirsts n L branches makers k → HoldsFirsts n (L ++ link ∷ []) (branches ++ b ∷ []) (with_branch makers b link.creator) (noted row next k)
+  holds_noted k fits_none holds =
       let some = holds.some in
       let inside = holds.inside in
       let rows = held.rows in
@@ -143,9 +142,10 @@ module _ (n : Stakes) (L : List Link) (branches makers ends : List ℕ) (held : 
       record {
         some = some;
         inside = omega (arith, length_push L link);
+        short = omega (arith, length_push L link);
         long = noted_long count next k ∙ long;
         on = get_or_append_left branches (b ∷ []) 0 y (omega arith) ∙ holds.on;
-        told = firsts_next n L link held.shaped fits (branching_of branches makers) C held.lines (row_taken n L branches makers ends held link fits b serves) (member_count n) no_first y
+        told = firsts_next n L link held.shaped fits (branching_of branches makers) C held.lines (row_taken n L branches makers ends held link fits b serves) (member_count n) k.none y
             (slice_index k.firsts) (slice_index (noted row next k).firsts) below (omega arith) holds.told
             (λ i hi off. noted_other count next k i (λ e. off (e ∙ sym last)))
             (λ hb. ap (slice_index (noted row next k).firsts) last
@@ -155,16 +155,16 @@ module _ (n : Stakes) (L : List Link) (branches makers ends : List ℕ) (held : 
         weighed = weighed_noted count next k n low enough holds.weighed;
       }
 
-  pub landmarks_more : (old new : List LandmarkView) (newest numbers : List ℕ) → HoldsLandmarks n L branches makers old newest numbers → length new ≡ length old →
-      ((i : ℕ) → i < length old → landmark_at new i ≡ noted row next (landmark_at old i)) →
+  pub landmarks_more : (old new : List LandmarkView) (newest numbers : List ℕ) → ((i : ℕ) → i < length old → length L + 1 < (landmark_at old i).none) →
+      HoldsLandmarks n L branches makers old newest numbers → length new ≡ length old → ((i : ℕ) → i < length old → landmark_at new i ≡ noted row next (landmark_at old i)) →
       HoldsLandmarks n (L ++ link ∷ []) (branches ++ b ∷ []) (with_branch makers b link.creator) new (with_branch newest b 0) (numbers ++ 0 ∷ [])
-  landmarks_more old new newest numbers landmarks long each =
+  landmarks_more old new newest numbers short_of landmarks long each =
       let reach = in_reach n L branches makers ends held link fits b serves in
       let same : (i : ℕ) → i < length old → StandsAs (landmark_at new i) (landmark_at old i) =
       λ i h. (ap (λ (k : LandmarkView). k.end) (each i h), ap (λ (k : LandmarkView). k.branch) (each i h), ap (λ (k : LandmarkView). k.before) (each i h)) in
       record {
         each = λ i h. (let low : i < length old = omega arith in
-            subst (HoldsFirsts n (L ++ link ∷ []) (branches ++ b ∷ []) (with_branch makers b link.creator)) (sym (each i low)) (holds_noted (landmark_at old i) (landmarks.each i low)));
+            subst (HoldsFirsts n (L ++ link ∷ []) (branches ++ b ∷ []) (with_branch makers b link.creator)) (sym (each i low)) (holds_noted (landmark_at old i) (short_of i low) (landmarks.each i low)));
         chains = chains_noted old new same long landmarks.chains;
         by_branch = λ c. subst (IsLastOn new (length new) c) (sym (opened_reads newest b c)) (newest_noted old new same long newest landmarks.by_branch c);
         newest_all = opened_long makers newest b link.creator reach landmarks.newest_all;
@@ -252,23 +252,20 @@ landmarks_none n L branches makers newest newest_are = record {
   numbers_all = omega arith;
 }
 
--- a list of which each place was written
-pub refilled : (n : ℕ) (new old : List LandmarkView) → length new ≡ n → take n (new ++ drop (length new) old) ≡ new
-refilled n new old long = ap (λ k. take k (new ++ drop (length new) old)) (sym long) ∙ take-append_seam new (drop (length new) old)
-
 -- the last row, when it begins to be landmarks
 pub holds_begun : (n : Stakes) (L : List Link) (branches makers ends : List ℕ) → HoldsBranches n L branches makers ends → (k : LandmarkView) → 0 < k.end → length L ≡ k.end → length k.firsts ≡ member_count n →
-    slice_index branches (k.end - 1) ≡ k.branch → (k.branch < member_count n → slice_index k.firsts k.branch ≡ k.end) → ((b : ℕ) → b < member_count n → b ≢ k.branch → slice_index k.firsts b ≡ no_first) →
-    stake_of n k.branch ≤ k.reached → HoldsFirsts n L branches makers k
-holds_begun n L branches makers ends held k some last long on own others enough = record {
+    slice_index branches (k.end - 1) ≡ k.branch → (k.branch < member_count n → slice_index k.firsts k.branch ≡ k.end) → ((b : ℕ) → b < member_count n → b ≢ k.branch → slice_index k.firsts b ≡ k.none) →
+    stake_of n k.branch ≤ k.reached → length L < k.none → HoldsFirsts n L branches makers k
+holds_begun n L branches makers ends held k some last long on own others enough short = record {
   some = some;
   inside = omega arith;
+  short = short;
   long = long;
   on = on;
-  told = firsts_begin (member_count n) no_first L (branching_of branches makers) (k.end - 1) (slice_index k.firsts) held.shaped.earlier held.lines (omega arith) (let short = held.short in omega arith)
+  told = firsts_begin (member_count n) k.none L (branching_of branches makers) (k.end - 1) (slice_index k.firsts) held.shaped.earlier held.lines (omega arith) short
       (λ low. ap (slice_index k.firsts) on ∙ (own (subst (λ c. c < member_count n) on low) ∙ ends_some k.end some))
       (λ b low other. others b low (λ e. other (e ∙ sym on)));
-  weighed = omega (arith, enough, alone_reached n k.branch k.firsts others);
+  weighed = omega (arith, enough, alone_reached n k.none k.branch k.firsts others);
 }
   where
     ends_some : (e : ℕ) → 0 < e → e ≡ (e - 1) + 1
@@ -319,22 +316,22 @@ module _ (n : Stakes) (L : List Link) (branches makers ends : List ℕ) (held : 
   passes_other b h = ap (λ c. cond c (nat_le (slice_index k.firsts b) (count b)) (sees_on L (get_or counts x []) y b))
       (false_from_ne_true (nat_lt b (member_count n)) (λ t. absurd (omega (arith, ltb-true b (member_count n) t))))
 
-  low : length L < no_first
-  low = (let short = held.short in omega arith)
+  low : length L < k.none
+  low = holds.short
 
   through_passes : (m : ℕ) → by_branches (length makers) (branching_of branches makers) passes m ≡ sees_through L x y m
   through_passes m =
       let same : k.end - 1 ≡ y = omega arith in
-      let firsts = subst (λ z. FirstDescendants (member_count n) no_first L (branching_of branches makers) z (slice_index k.firsts)) same holds.told in
+      let firsts = subst (λ z. FirstDescendants (member_count n) k.none L (branching_of branches makers) z (slice_index k.firsts)) same holds.told in
       seen_by_branches L held.shaped.earlier (branching_of branches makers) held.lines (length makers) held.known x y hx passes
       (λ b h p. elim (cases_lt b (member_count n)) [
-        | inl own ↦ counted_sound L held.shaped.earlier (branching_of branches makers) held.lines (length makers) held.known (member_count n) no_first x y count (slice_index k.firsts) hx (rows.row x hx) firsts low
+        | inl own ↦ counted_sound L held.shaped.earlier (branching_of branches makers) held.lines (length makers) held.known (member_count n) k.none x y count (slice_index k.firsts) hx (rows.row x hx) firsts low
             free b own (sym (passes_own b own) ∙ p)
         | inr other ↦ sound_on n L branches makers ends held counts rows x y b hx (sym (passes_other b other) ∙ p)
       ])
       (λ z hz up seen. elim (cases_lt (get_or branches z 0) (member_count n)) [
         | inl own ↦ passes_own (get_or branches z 0) own
-            ∙ counted_complete L held.shaped.earlier (branching_of branches makers) held.lines (length makers) held.known (member_count n) no_first x y count (slice_index k.firsts) hx (rows.row x hx) firsts low z own up seen
+            ∙ counted_complete L held.shaped.earlier (branching_of branches makers) held.lines (length makers) held.known (member_count n) k.none x y count (slice_index k.firsts) hx (rows.row x hx) firsts low z own up seen
         | inr other ↦ passes_other (get_or branches z 0) other ∙ complete_on n L branches makers ends held counts rows x y z hx hz up seen
       ])
       m

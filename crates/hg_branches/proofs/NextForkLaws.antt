@@ -50,7 +50,7 @@ has_place_take (q ∷ ps) (suc i) p h = elim (or_cases (eqb q p) (has_place (tak
 ]
 
 module _ (n : Stakes) (L : List Link) (branches makers ends : List ℕ) (held : HoldsBranches n L branches makers ends) (counts : List (List ℕ)) (rows : HoldsCounts n L branches makers counts)
-    (masks : List ℕ) (forks : HoldsForks L masks) (short : length L + 1 < 2 ^ 16 - 1) where
+    (masks : List ℕ) (forks : HoldsForks L masks) (short : length L + 1 < 2 ^ 32 - 1) where
   abbrev B : Branching
   B = branching_of branches makers
 

@@ -9,7 +9,8 @@ use Rattle.hg_model.specs.Places.{table}
 use Rattle.hg_branches.specs.Branches.{greatest_count}
 use Rattle.hg_branches.specs.Columns.{count_in}
 use Rattle.hg_branches.specs.Tails.{Tail, no_tail, tail_at, tail_count, tail_width}
-use Rattle.hg_branches.specs.Table.{number_of, row_of, rows_of, has_room, KeepsNumbers, own_next, tail_next, IsNextCounts}
+use Rattle.hg_branches.specs.Table.{number_of, row_of, rows_of, has_room, KeepsNumbers, tail_next, IsNextCounts}
+use Rattle.hg_branches.specs.OwnCounts.{own_next}
 use Rattle.hg_branches.proofs.TableLaws.{get_or-table, length-table, get_or-table_all, table-same, table_grown, table_cut}
 
 module _ (members : ℕ) (own : List ℕ) (tails : List Tail) where
@@ -87,11 +88,14 @@ pub numbers_fit : (members widest : ℕ) (own : List ℕ) (tails : List Tail) �
     ((n : ℕ) → AllByRecursion (λ p. tail_width tails p ≤ n) on → length numbers ≤ n) → length numbers ≤ widest
 numbers_fit members widest own tails keeps on numbers places narrow = narrow widest (all_low (λ p. tail_width tails p ≤ widest) (length tails) on places keeps.narrow)
 
-pub room_parts : (members widest own tails row : ℕ) → 1 ≤ cond (has_room members widest own tails row) 1 0 → widest < tails
-room_parts members widest own tails row h = grind (arith, nat_tests)
+pub room_own : (widest own tails row : ℕ) → 1 ≤ cond (has_room widest own tails row) 1 0 → 1 ≤ own
+room_own widest own tails row h = grind (arith, nat_tests)
 
-pub room_row : (members widest own tails row : ℕ) → 1 ≤ cond (has_room members widest own tails row) 1 0 → widest ≤ row
-room_row members widest own tails row h = grind (arith, nat_tests)
+pub room_parts : (widest own tails row : ℕ) → 1 ≤ cond (has_room widest own tails row) 1 0 → widest < tails
+room_parts widest own tails row h = grind (arith, nat_tests)
+
+pub room_row : (widest own tails row : ℕ) → 1 ≤ cond (has_room widest own tails row) 1 0 → widest ≤ row
+room_row widest own tails row h = grind (arith, nat_tests)
 
 -- one row more
 module _ (members widest : ℕ) (own : List ℕ) (tails : List Tail) (keeps : KeepsNumbers members widest own tails) (on : List ℕ) (branch above : ℕ) (row numbers : List ℕ)
@@ -188,7 +192,7 @@ module _ (members widest : ℕ) (own : List ℕ) (tails : List Tail) (keeps : Ke
         omega (arith, last_long);
   }
 
-  pub keeps_more : length tails + 1 < 2 ^ 16 → KeepsNumbers members (max widest above) own_more tails_more
+  pub keeps_more : length tails + 1 < 2 ^ 32 → KeepsNumbers members (max widest above) own_more tails_more
   keeps_more short =
       let many = length_push tails added in
       record {

@@ -6,7 +6,7 @@ use Rattle.hg_model.specs.Stakes.{Stakes, member_count, stake_of, stake_where, t
 use Rattle.hg_model.specs.Seeing.{is_supermajority}
 use Rattle.hg_model.proofs.PlacesLaws.{weight_below-le, weight_below-same, weight_below_none}
 use Rattle.hg_model.proofs.WeightLaws.{passes_beside, beside_itself, beside_other, weight_below_beside}
-use Rattle.hg_branches.specs.Landmarks.{LandmarkView, is_reached, no_first, IsNeverStrong, IsWeighed}
+use Rattle.hg_branches.specs.Landmarks.{LandmarkView, is_reached, IsNeverStrong, IsWeighed}
 use Rattle.hg_branches.specs.Lines.{own_sees, is_strong_by_own}
 
 -- of two tests that differ at one member at most, the second passes no more stake than the first and that member's
@@ -34,27 +34,30 @@ module _ (n : Stakes) (b : ℕ) (one two : ℕ → Bool) (same : (m : ℕ) → m
   ]
 
 -- where one branch alone has another first descendant, no more than its member comes in
-pub one_more_reached : (n : Stakes) (b : ℕ) (firsts next : List ℕ) → ((i : ℕ) → i ≢ b → slice_index next i ≡ slice_index firsts i) →
-    stake_where n (is_reached next) ≤ stake_where n (is_reached firsts) + stake_of n b
-one_more_reached n b firsts next others = one_more n b (is_reached firsts) (is_reached next) (λ m _ other. ap (λ f. nat_lt f no_first) (others m other))
+pub one_more_reached : (n : Stakes) (none b : ℕ) (firsts next : List ℕ) → ((i : ℕ) → i ≢ b → slice_index next i ≡ slice_index firsts i) →
+    stake_where n (is_reached none next) ≤ stake_where n (is_reached none firsts) + stake_of n b
+one_more_reached n none b firsts next others = one_more n b (is_reached none firsts) (is_reached none next) (λ m _ other. ap (λ f. nat_lt f none) (others m other))
+
+itself_low : (n : ℕ) → nat_lt n n ≡ false
+itself_low n = false_from_ne_true (nat_lt n n) (λ h. (let less : n < n = ltb-true n n h in absurd (omega arith)))
 
 -- where one branch alone has a first descendant, its member alone is reached
-pub alone_reached : (n : Stakes) (b : ℕ) (firsts : List ℕ) → ((m : ℕ) → m < member_count n → m ≢ b → slice_index firsts m ≡ no_first) → stake_where n (is_reached firsts) ≤ stake_of n b
-alone_reached n b firsts none =
+pub alone_reached : (n : Stakes) (none b : ℕ) (firsts : List ℕ) → ((m : ℕ) → m < member_count n → m ≢ b → slice_index firsts m ≡ none) → stake_where n (is_reached none firsts) ≤ stake_of n b
+alone_reached n none b firsts others =
     omega (
       arith,
-      one_more n b (λ _. false) (is_reached firsts) (λ m member other. ap (λ f. nat_lt f no_first) (none m member other)),
+      one_more n b (λ _. false) (is_reached none firsts) (λ m member other. ap (λ f. nat_lt f none) (others m member other) ∙ itself_low none),
       weight_below_none (stake_of n) (member_count n) (λ _. false) (λ m _ passes. both_ways false refl passes),
     )
 
 -- where those who are reached weigh too little, so do those who are seen, whatever is counted
-pub never_strong : (n : Stakes) (k : LandmarkView) → IsWeighed n k → is_supermajority (total n) k.reached ≡ false → IsNeverStrong n k.firsts
+pub never_strong : (n : Stakes) (k : LandmarkView) → IsWeighed n k → is_supermajority (total n) k.reached ≡ false → IsNeverStrong n k
 never_strong n k weighed little counts low =
-    let seen : stake_where n (own_sees k.firsts counts) ≤ stake_where n (is_reached k.firsts) =
-    weight_below-le (stake_of n) (member_count n) (own_sees k.firsts counts) (is_reached k.firsts) (λ b member sees.
+    let seen : stake_where n (own_sees k.firsts counts) ≤ stake_where n (is_reached k.none k.firsts) =
+    weight_below-le (stake_of n) (member_count n) (own_sees k.firsts counts) (is_reached k.none k.firsts) (λ b member sees.
     let le : slice_index k.firsts b ≤ slice_index counts b = leb-true (slice_index k.firsts b) (slice_index counts b) sees in
     let less = low b member in
-    lt-ltb (slice_index k.firsts b) no_first (omega arith)) in
+    lt-ltb (slice_index k.firsts b) k.none (omega arith)) in
     false_from_ne_true (is_strong_by_own n k.firsts counts) (λ h.
     let over : 2 * total n < 3 * stake_where n (own_sees k.firsts counts) = ltb-true (2 * total n) (3 * stake_where n (own_sees k.firsts counts)) h in
     both_ways (is_supermajority (total n) k.reached) little (lt-ltb (2 * total n) (3 * k.reached) (omega (arith, over, seen, weighed))))

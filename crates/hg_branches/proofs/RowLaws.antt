@@ -7,7 +7,7 @@ use Rattle.std.proofs.lemmas.Bool.Decides.{nat_tests}
 use Rattle.std.proofs.lemmas.List.Folds.{list_all_at, list_all_more}
 use Rattle.std.proofs.lemmas.List.{get_or_append_left, get_or-append_right, get_or_past, get_or-take, length-append, ext_get_or}
 use Rattle.hg_model.specs.Places.{some_below, table}
-use Rattle.hg_model.proofs.PlacesLaws.{some_below_from, some_below_found}
+use Rattle.hg_model.proofs.PlacesLaws.{some_below_from, some_below_found, some_below_next}
 use Rattle.hg_model.proofs.ReachLaws.{bool_iff}
 use Rattle.hg_branches.specs.Tails.{Tail, tail_at, place_count, place_width}
 use Rattle.hg_branches.specs.Branches.{greatest_count}
@@ -70,6 +70,17 @@ tail_had members own tails x inside =
 pub none_behind : (long members width : ℕ) → long ≡ members + width → eqb width 0 ≡ eqb long members
 none_behind long members width is = grind (arith, nat_tests)
 
+-- behind `b` no branch counts up to the next one that is told of
+pub between_none : (lanes numbers : List ℕ) (own end b next : ℕ) → length lanes + length numbers ≤ b + 1 → (b + 1 < length lanes + own → next ≤ length lanes + own - 1) →
+    (c : ℕ) → b < c → c < next → get_or (joined_row lanes numbers own end) c 0 ≡ 0
+between_none lanes numbers own end b next listed to c past before =
+    let none : get_or numbers (c - length lanes) 0 ≡ 0 = get_or_past numbers (c - length lanes) 0 (omega arith) in
+    let off : eqb (c - length lanes + 1) own ≡ false = ne_eqb (c - length lanes + 1) own (λ same. (elim (cases_lt (b + 1) (length lanes + own)) [
+      | inl less ↦ (let le = to less in absurd (omega arith))
+      | inr more ↦ absurd (omega arith)
+    ])) in
+    joined_other lanes numbers own end c (omega arith) ∙ ap₂ (λ n t. max n (cond t end 0)) none off
+
 -- a test that fails from `len` on passes below `len` or nowhere
 pub some_below-longer : (len n : ℕ) (test : ℕ → Bool) → len ≤ n → ((k : ℕ) → len ≤ k → k < n → test k ≡ false) → some_below len test ≡ some_below n test
 some_below-longer len n test le rest = bool_iff (some_below len test) (some_below n test)
@@ -78,6 +89,10 @@ some_below-longer len n test le rest = bool_iff (some_below len test) (some_belo
       | inl low ↦ some_below_from len test k.0 low k.2
       | inr past ↦ absurd (both_ways (test k.0) (rest k.0 past k.1) k.2)
     ]))
+
+-- a test that passes at no place behind b up to the next one
+pub some_below-next : (b next : ℕ) (test : ℕ → Bool) → b < next → ((c : ℕ) → b < c → c < next → test c ≡ false) → (some_below b test || test b) ≡ some_below next test
+some_below-next b next test later none = sym (some_below_next b test) ∙ some_below-longer (b + 1) next test (omega arith) (λ c past before. none c (omega arith) before)
 
 -- where the parents before and the next one count rows of the members' own branches alone, a new fork is the creator's
 module _ (makers : List ℕ) (count other : ℕ → ℕ) (members : ℕ) (own : (m : ℕ) → m < members → slice_index makers m ≡ m) (all : members ≤ length makers)

@@ -34,7 +34,7 @@ with_branch xs b v = cond (b == length xs) (xs ++ v ∷ []) xs
 pub record HoldsBranches (n : Stakes) (L : List Link) (branches makers ends : List ℕ) : Type 0 where
   pub shaped : IsShaped n L
   pub few : member_count n ≤ 128
-  pub short : length L < 2 ^ 16 - 1
+  pub short : length L < 2 ^ 32 - 1
   pub rows : length branches ≡ length L
   pub own : (m : ℕ) → m < member_count n → get_or makers m 0 ≡ m
   pub all : member_count n ≤ length makers

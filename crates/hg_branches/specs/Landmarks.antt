@@ -1,53 +1,54 @@
 -- What is noted of rows for strongly seeing them
-use Rattle.std.specs.Prelude.{◌≡◌, ◌≢◌, ℕ, ◌+◌, ◌-◌, ◌^◌, ◌<◌, ◌≤◌, ◌&&◌, nat_lt, nat_le, min, Bool, false, cond, List, [], length, get_or, slice_index, slice_set, Option, Some, None}
+use Rattle.std.specs.Prelude.{◌≡◌, ◌≢◌, ℕ, ◌+◌, ◌-◌, ◌^◌, ◌<◌, ◌≤◌, ◌⊎◌, ◌&&◌, nat_lt, nat_le, min, Bool, true, false, cond, List, [], length, get_or, slice_index, slice_set, Option, Some, None}
 use Rattle.hg_model.specs.Stakes.{Stakes, member_count, stake_where}
 use Rattle.hg_model.specs.Links.{Link}
 use Rattle.hg_branches.specs.Branches.{FirstDescendants}
 use Rattle.hg_branches.specs.Columns.{branching_of}
+use Rattle.hg_branches.specs.Firsts.{none_by, wide_first}
 use Rattle.hg_branches.specs.Lines.{is_strong_by_own}
 use Rattle.hg_branches.specs.declared.landmarks.NextRow.{NextRow}
 
--- what stands where a branch has no descendant
-abbrev pub no_first : ℕ
-no_first = 65535
-
--- one more than the place of the row; its branch; the number of the landmark before it on that branch, or 0; for each
--- member's own branch its first descendant; and what those members weigh at most who have one. The number of a landmark is
--- one more than its index
+-- one more than the place of the row; its branch; the number of the landmark before it on that branch, or 0; what stands
+-- where a branch has no descendant; for each member's own its first one; and what those members weigh at most who have
+-- one. The number of a landmark is one more than its index
 pub record LandmarkView : Type 0 where
   pub end : ℕ
   pub branch : ℕ
   pub before : ℕ
+  pub none : ℕ
   pub firsts : List ℕ
   pub reached : ℕ
 
 -- what is read where there is no landmark
 abbrev pub no_landmark : LandmarkView
-no_landmark = record { end = 0; branch = 0; before = 0; firsts = []; reached = 0 }
+no_landmark = record { end = 0; branch = 0; before = 0; none = 0; firsts = []; reached = 0 }
 
 -- the landmark at this index
 abbrev pub landmark_at : List LandmarkView → ℕ → LandmarkView
 landmark_at landmarks i = get_or landmarks i no_landmark
 
 -- member m has a descendant on its own branch
-abbrev pub is_reached : List ℕ → ℕ → Bool
-is_reached firsts m = nat_lt (slice_index firsts m) no_first
+abbrev pub is_reached : ℕ → List ℕ → ℕ → Bool
+is_reached none firsts m = nat_lt (slice_index firsts m) none
 
 -- the members who have one weigh no more than is noted
 abbrev pub IsWeighed : Stakes → LandmarkView → Type 0
-IsWeighed n k = stake_where n (is_reached k.firsts) ≤ k.reached
+IsWeighed n k = stake_where n (is_reached k.none k.firsts) ≤ k.reached
 
 -- no counts of a row tell of first descendants with more than two thirds of the stake
-abbrev pub IsNeverStrong : Stakes → List ℕ → Type 0
-IsNeverStrong n firsts = (counts : List ℕ) → ((b : ℕ) → b < member_count n → slice_index counts b < no_first) → is_strong_by_own n firsts counts ≡ false
+abbrev pub IsNeverStrong : Stakes → LandmarkView → Type 0
+IsNeverStrong n k =
+    (counts : List ℕ) → ((b : ℕ) → b < member_count n → slice_index counts b < k.none) →
+    is_strong_by_own n k.firsts counts ≡ false
 
 -- a landmark has the first descendants of a row of the graph
 pub record HoldsFirsts (n : Stakes) (L : List Link) (branches makers : List ℕ) (k : LandmarkView) : Type 0 where
   pub some : 0 < k.end
   pub inside : k.end ≤ length L
+  pub short : length L < k.none
   pub long : length k.firsts ≡ member_count n
   pub on : slice_index branches (k.end - 1) ≡ k.branch
-  pub told : FirstDescendants (member_count n) no_first L (branching_of branches makers) (k.end - 1) (slice_index k.firsts)
+  pub told : FirstDescendants (member_count n) k.none L (branching_of branches makers) (k.end - 1) (slice_index k.firsts)
   pub weighed : IsWeighed n k
 
 -- of the first `many` landmarks the last on branch c has this number, or it is 0 where none is on c
@@ -94,6 +95,7 @@ noted_once count next k = record {
   end = k.end;
   branch = k.branch;
   before = k.before;
+  none = k.none;
   firsts = cond (is_first count next k) (slice_set k.firsts next.branch next.end) k.firsts;
   reached = cond (is_first count next k) (with_stake k.reached next.stake) k.reached;
 }
@@ -140,10 +142,29 @@ AreNews known tops counts news =
 abbrev pub HoldsTops : List LandmarkView → List ℕ → Type 0
 HoldsTops landmarks tops = (i : ℕ) → i < length landmarks → (landmark_at landmarks i).end ≤ slice_index tops (landmark_at landmarks i).branch
 
--- the memory for one more landmark, if there is any
-abbrev pub IsSpareLandmark : ℕ → Option LandmarkView → Type 0
-IsSpareLandmark n None = Unit {0}
-IsSpareLandmark n (Some k) = length k.firsts ≡ n
+-- the landmark in 32 bits
+pub record Widens (old new : LandmarkView) : Type 0 where
+  pub end : new.end ≡ old.end
+  pub branch : new.branch ≡ old.branch
+  pub before : new.before ≡ old.before
+  pub reached : new.reached ≡ old.reached
+  pub none : new.none ≡ none_by true
+  pub low : old.none ≤ none_by true
+  pub long : length new.firsts ≡ length old.firsts
+  pub each : (b : ℕ) → b < length old.firsts → slice_index new.firsts b ≡ wide_first old.none (slice_index old.firsts b)
+
+-- the landmark as it was, or in 32 bits
+abbrev pub IsWidened : LandmarkView → LandmarkView → Type 0
+IsWidened old new = (new ≡ old) ⊎ Widens old new
+
+-- all landmarks are in 32 bits
+abbrev pub AllWide : List LandmarkView → Type 0
+AllWide landmarks = (i : ℕ) → i < length landmarks → (landmark_at landmarks i).none ≡ none_by true
+
+-- the memory for one more landmark, if there is any, with ends below `none`
+abbrev pub IsSpareLandmark : ℕ → ℕ → Option LandmarkView → Type 0
+IsSpareLandmark n none None = Unit {0}
+IsSpareLandmark n none (Some k) = (length k.firsts ≡ n) × (none ≤ k.none)
 
 -- for how many more that serves
 abbrev pub spare_room : Option LandmarkView → ℕ

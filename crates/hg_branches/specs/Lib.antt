@@ -1,9 +1,12 @@
 pub mod Branches
 pub mod Columns
+pub mod Firsts
 pub mod Landmarks
 pub mod Lines
+pub mod OwnCounts
 pub mod Rows
 pub mod Sight
 pub mod Table
 pub mod TailBlocks
 pub mod Tails
+pub mod Tops

@@ -1,10 +1,11 @@
 -- What a graph of branches keeps to
-use Rattle.std.specs.Prelude.{◌≡◌, ◌+◌, ◌-◌, ◌^◌, ◌<◌, ◌≤◌, length, vec_len, vec_capacity}
+use Rattle.std.specs.Prelude.{◌≡◌, ℕ, ◌+◌, ◌<◌, ◌≤◌, length, vec_len, vec_capacity}
 use Rattle.hg_model.specs.Stakes.{member_count}
 use Rattle.hg_ancestry.specs.Held.{HoldsForks}
 use Rattle.hg_branches.specs.declared.sight.BranchSight.TheInside.{Inside}
 use Rattle.hg_branches.specs.Columns.{HoldsBranches, HoldsCounts, room_of}
-use Rattle.hg_branches.specs.Landmarks.{HoldsLandmarks, HoldsTops, IsSpareLandmark, spare_room}
+use Rattle.hg_branches.specs.Firsts.{none_by}
+use Rattle.hg_branches.specs.Landmarks.{landmark_at, HoldsLandmarks, HoldsTops, IsSpareLandmark, spare_room}
 
 -- each column holds what it is to hold, and has memory for a row where that was taken
 pub record HoldsBranchSight (s : Inside) : Type 0 where
@@ -13,10 +14,11 @@ pub record HoldsBranchSight (s : Inside) : Type 0 where
   pub counts_members : s.counts.members ≡ member_count s.stakes
   pub forks : HoldsForks s.links.items s.forked.items
   pub landmarks : HoldsLandmarks s.stakes s.links.items s.branches.items s.makers.items s.landmarks.items s.newest.items s.numbers.items
-  pub tops : HoldsTops s.landmarks.items s.tops.items
-  pub tops_all : length s.tops.items ≡ length s.makers.items
-  pub spare : IsSpareLandmark (member_count s.stakes) s.spare
-  pub rows_room : length s.links.items + room_of s.ready < 2 ^ 16 - 1
+  pub tops : HoldsTops s.landmarks.items s.tops.ends
+  pub tops_all : length s.tops.ends ≡ length s.makers.items
+  pub spare : IsSpareLandmark (member_count s.stakes) (none_by s.wide) s.spare
+  pub widths : (i : ℕ) → i < length s.landmarks.items → none_by s.wide ≤ (landmark_at s.landmarks.items i).none
+  pub rows_room : length s.links.items + room_of s.ready < none_by s.wide
   pub links_room : room_of s.ready ≤ s.links.room
   pub branches_room : room_of s.ready ≤ s.branches.room
   pub makers_room : vec_len s.makers + room_of s.ready ≤ vec_capacity s.makers
@@ -24,6 +26,6 @@ pub record HoldsBranchSight (s : Inside) : Type 0 where
   pub counts_room : room_of s.ready ≤ s.counts.room
   pub forked_room : room_of s.ready ≤ s.forked.room
   pub newest_room : vec_len s.newest + room_of s.ready ≤ vec_capacity s.newest
-  pub tops_room : vec_len s.tops + room_of s.ready ≤ vec_capacity s.tops
+  pub tops_room : room_of s.ready ≤ s.tops.room
   pub numbers_room : vec_len s.numbers + room_of s.ready ≤ vec_capacity s.numbers
   pub landmarks_room : vec_len s.landmarks + spare_room s.spare ≤ vec_capacity s.landmarks

@@ -2,7 +2,6 @@
 use Rattle.std.specs.Prelude.{◌≡◌, ◌≢◌, ℕ, ◌+◌, ◌-◌, ◌*◌, ◌<◌, ◌≤◌, ◌^◌, ◌==◌, ◌&&◌, nat_lt, nat_le, Bool, cond, List, [], ◌∷◌, ◌++◌, length, slice_index, slice_index_or, take}
 use Rattle.std.specs.List.{AllByRecursion}
 use Rattle.hg_model.specs.Places.{table}
-use Rattle.hg_blocks.specs.Rows.{RowsWithRoom}
 use Rattle.hg_branches.specs.Branches.{greatest_count}
 use Rattle.hg_branches.specs.Columns.{count_in}
 use Rattle.hg_branches.specs.Tails.{Tail, tail_count, tail_width}
@@ -47,25 +46,13 @@ rows_of members own tails = table (row_of members own tails) (length tails)
 -- there are as many numbers as that takes, and no tail has more than `widest`
 pub record KeepsNumbers (members widest : ℕ) (own : List ℕ) (tails : List Tail) : Type 0 where
   pub long : length own ≡ length tails * members
-  pub short : length tails < 2 ^ 16
+  pub short : length tails < 2 ^ 32
   pub narrow : (x : ℕ) → x < length tails → tail_width tails x ≤ widest
 
 -- there is memory for a row of the members' own branches, and for so many numbers of the others and in the making
-abbrev pub has_room : ℕ → ℕ → ℕ → ℕ → ℕ → Bool
-has_room members widest own tails row = nat_le 1 own && (nat_lt widest tails && (nat_le members row && nat_le widest row))
-
--- the greatest numbers of the parents on the members' own branches, and on the row's own its end
-abbrev pub own_next : ℕ → List ℕ → List ℕ → ℕ → ℕ → ℕ → ℕ
-own_next members own on branch end b = cond (b == branch) end (greatest_count (λ p c. slice_index own (p * members + c)) on b)
+abbrev pub has_room : ℕ → ℕ → ℕ → ℕ → Bool
+has_room widest own tails row = nat_le 1 own && (nat_lt widest tails && nat_le widest row)
 
 -- the greatest numbers of the parents' tails, and none of the row's own branch
 abbrev pub tail_next : List Tail → List ℕ → ℕ → ℕ → ℕ
 tail_next tails on own k = cond (k + 1 == own) 0 (greatest_count (tail_count tails) on k)
-
--- row p of the members' own branches is there
-abbrev pub has_own_row : RowsWithRoom → ℕ → Type 0
-has_own_row own p = p * own.width + own.width ≤ length own.numbers
-
--- the next one's numbers, as `own_next`
-abbrev pub own_in : RowsWithRoom → List ℕ → ℕ → ℕ → ℕ → ℕ
-own_in own on branch end b = own_next own.width own.numbers on branch end b

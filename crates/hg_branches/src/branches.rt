@@ -8,10 +8,10 @@ use std::alloc::Global;
 
 /// The branch of the next row, by this member on parents at these places. It goes on where its self-parent is the last row
 /// of a branch, and without parents where its member's own branch is empty. Any other row opens a branch.
-pub fn branch_for(branches: &Blocks<usize>, ends: &[u16], on: &[usize], by: Member) -> usize
+pub fn branch_for(branches: &Blocks<usize>, ends: &[u32], on: &[usize], by: Member) -> usize
     requires places { AllByRecursion (λ p. p < length branches.now.items) on.now }
     requires known { AllByRecursion (λ p. slice_index branches.now.items p < length ends.now) on.now }
-    requires short { length branches.now.items < 2 ^ 16 - 1 }
+    requires short { length branches.now.items < 2 ^ 32 - 1 }
     requires member { by < length ends.now }
     ensures { result ≡ next_branch branches.now.items ends.now on.now by }
 {
@@ -22,7 +22,7 @@ pub fn branch_for(branches: &Blocks<usize>, ends: &[u16], on: &[usize], by: Memb
         }
         Some((self_place, _)) => {
             let branch = branches[*self_place];
-            if ends[branch] == *self_place as u16 + 1 {
+            if ends[branch] == *self_place as u32 + 1 {
                 branch
             } else {
                 ends.len()
@@ -32,7 +32,7 @@ pub fn branch_for(branches: &Blocks<usize>, ends: &[u16], on: &[usize], by: Memb
 }
 
 /// Moves the end of the branch to that of a new row by this member. The branch may be new.
-pub fn move_end(makers: &mut Vec<Member>, ends: &mut Vec<u16>, branch: usize, by: Member, end: u16)
+pub fn move_end(makers: &mut Vec<Member>, ends: &mut Vec<u32>, branch: usize, by: Member, end: u32)
     requires same { length makers.old.items ≡ length ends.old.items }
     requires there { branch ≤ length ends.old.items }
     requires makers_room { vec_len makers.old < vec_capacity makers.old }
@@ -49,7 +49,7 @@ pub fn move_end(makers: &mut Vec<Member>, ends: &mut Vec<u16>, branch: usize, by
 }
 
 /// Opens the branch for landmarks, of which it has none, if it is a new one.
-pub fn open_branch(newest: &mut Vec<u16>, branch: usize)
+pub fn open_branch(newest: &mut Vec<u32>, branch: usize)
     requires there { branch ≤ length newest.old.items }
     requires room { vec_len newest.old < vec_capacity newest.old }
     ensures { newest.new.items ≡ with_branch newest.old.items branch 0 }
@@ -60,7 +60,7 @@ pub fn open_branch(newest: &mut Vec<u16>, branch: usize)
 }
 
 /// The ends, none past `len`.
-pub fn ends_within(alloc: Global, ends: &[u16], len: u16) -> Result<Vec<u16>, Memory>
+pub fn ends_within(alloc: Global, ends: &[u32], len: u32) -> Result<Vec<u32>, Memory>
     ensures len { IfOk result (λ v. length v.items ≡ length ends.now) }
     ensures each { IfOk result (λ v. (b : ℕ) → slice_index v.items b ≡ min (slice_index ends.now b) len) }
 {
@@ -70,7 +70,7 @@ pub fn ends_within(alloc: Global, ends: &[u16], len: u16) -> Result<Vec<u16>, Me
 }
 
 /// Lowers each end to `len`, if it is past that.
-fn cut_ends(ends: &mut [u16], len: u16)
+fn cut_ends(ends: &mut [u32], len: u32)
     ensures len { length ends.new ≡ length ends.old }
     ensures each { (b : ℕ) → slice_index ends.new b ≡ min (slice_index ends.old b) len }
 {
@@ -80,8 +80,8 @@ fn cut_ends(ends: &mut [u16], len: u16)
 }
 
 /// So many zeros: the ends of empty branches.
-pub fn zeros(alloc: Global, many: usize) -> Result<Vec<u16>, Memory>
+pub fn zeros(alloc: Global, many: usize) -> Result<Vec<u32>, Memory>
     ensures { IfOk result (λ v. v.items ≡ replicate many 0) }
 {
-    Ok(vec![in alloc; 0u16; many]?)
+    Ok(vec![in alloc; 0u32; many]?)
 }

@@ -1,51 +1,69 @@
-ghost use Rattle.std.specs.Prelude.{◌≡◌, ◌<◌, ◌≤◌, ℕ, max, min, length, slice_index, take};
+ghost use Rattle.std.specs.Prelude.{◌≡◌, ◌<◌, ◌≤◌, ◌+◌, ℕ, max, length, slice_index, take};
+ghost use Rattle.hg_model.specs.Counts.{numbers_of};
 ghost use Rattle.hg_branches.specs.Rows.{row_in, known_place};
 
 use crate::row_tail::RowTail;
 use crate::table::CountTable;
-use hg_bits::kernels::narrow::max_into;
+use hg_bits::kernels::max_into;
+use hg_model::Counts;
 use std::marker::Model;
 
 /// What a row counts of each branch.
 #[derive(Drop)]
 pub struct RowCounts<'a> {
     /// The numbers of the members' own branches.
-    own: &'a [u16],
+    own: Counts<'a>,
     /// Those of the others.
     tail: RowTail<'a>,
 }
 
 impl<'a> Model for RowCounts<'a> {
     ghost use Rattle.std.specs.Prelude.{length};
+    ghost use Rattle.hg_model.specs.Counts.{numbers_of};
     ghost use Rattle.hg_branches.specs.Rows.{RowView, joined_row};
 
     ghost Value = { RowView };
 
-    ghost view = { λ s. record { members = length s.own.now; row = joined_row s.own.now s.tail.numbers.now s.tail.own s.tail.end } };
+    ghost view = { λ s. record {
+      members = length (numbers_of s.own);
+      row = joined_row (numbers_of s.own) s.tail.numbers.now s.tail.own s.tail.end;
+    } };
 }
 
 impl<'a> RowCounts<'a> {
     /// The number of branch `b`.
-    pub fn at(&self, b: usize) -> u16
+    pub fn at(&self, b: usize) -> u32
         ensures { result ≡ slice_index self.now.row b }
     {
-        match self.own.get(b) {
-            Some(number) => *number,
-            None => self.tail.at(b - self.own.len()),
+        let members = self.own.len();
+        if b < members {
+            number_at(self.own, b)
+        } else {
+            self.tail.at(b - members)
         }
     }
 
-    /// How many of the first `many` branches the row tells of. It counts 0 of those behind.
-    pub fn reach(&self, many: usize) -> usize
-        ensures { result ≡ min many (length self.now.row) }
+    /// The first branch behind `b` that the row may tell of, or `many`. It counts 0 of those between: behind the numbers of its
+    /// tail it tells of its own branch alone, which may be far.
+    pub fn next_after(&self, b: usize, many: usize) -> usize
+        requires { b < many }
+        ensures later { b < result }
+        ensures within { result ≤ many }
+        ensures between { (c : ℕ) → b < c → c < result → slice_index self.now.row c ≡ 0 }
     {
-        many.min(self.own.len().saturating_add(self.tail.width()))
+        let next = b + 1;
+        let members = self.own.len();
+        if next < members.saturating_add(self.tail.numbers.len()) {
+            return next;
+        }
+        let end = members.saturating_add(self.tail.own);
+        if next < end { many.min(end - 1) } else { many }
     }
 
     /// The numbers of the members' own branches.
-    pub fn own(&self) -> &[u16]
-        ensures value { result.now ≡ take self.now.members self.now.row }
-        ensures len { length result.now ≡ self.now.members }
+    pub fn own(&self) -> Counts<'_>
+        ensures value { numbers_of result ≡ take self.now.members self.now.row }
+        ensures len { length (numbers_of result) ≡ self.now.members }
     {
         self.own
     }
@@ -72,8 +90,23 @@ pub fn known_place(on: &[usize], x: usize) -> usize
     }
 }
 
+/// Number `b` of these, or 0 where there is none.
+pub fn number_at(counts: Counts<'_>, b: usize) -> u32
+    ensures { result ≡ slice_index (numbers_of counts.entry) b }
+{
+    match counts {
+        Counts::Narrow(numbers) => {
+            match numbers.get(b) {
+                Some(number) => u32::from(*number),
+                None => 0,
+            }
+        }
+        Counts::Wide(numbers) => count_at(numbers, b),
+    }
+}
+
 /// The number of branch `b`, or 0 where there is none.
-pub fn count_at(row: &[u16], b: usize) -> u16
+pub fn count_at(row: &[u32], b: usize) -> u32
     ensures { result ≡ slice_index row.now b }
 {
     match row.get(b) {
@@ -83,7 +116,7 @@ pub fn count_at(row: &[u16], b: usize) -> u16
 }
 
 /// Raises as many of the first numbers as there are others.
-pub fn raise_first(row: &mut [u16], others: &[u16])
+pub fn raise_first(row: &mut [u32], others: &[u32])
     requires { length others.now ≤ length row.old }
     ensures len { length row.new ≡ length row.old }
     ensures each { (b : ℕ) → slice_index row.new b ≡ max (slice_index row.old b) (slice_index others.now b) }

@@ -1,4 +1,4 @@
-ghost use Rattle.std.specs.Prelude.{◌≡◌, ◌<◌, ◌≤◌, ℕ, max, length, slice_index};
+ghost use Rattle.std.specs.Prelude.{◌≡◌, ◌<◌, ◌≤◌, ◌||◌, ◌&&◌, ◌==◌, ℕ, max, length, slice_index};
 ghost use Rattle.std.specs.List.{AllByRecursion, list_all};
 ghost use Rattle.hg_bits.specs.Masks.{mask_has};
 ghost use Rattle.hg_branches.specs.Branches.{greatest_count};
@@ -109,7 +109,7 @@ fn own_fork(counts: &CountTable, first: usize, others: &[usize], next: usize, by
 
 /// The greatest of this number and of what these rows count of branch `b`.
 #[tactic(auto, using(crate::proofs::JoinLaws::greatest_steps))]
-fn greatest(number: u16, counts: &CountTable, rows: &[usize], b: usize) -> u16
+fn greatest(number: u32, counts: &CountTable, rows: &[usize], b: usize) -> u32
     requires { AllByRecursion (λ p. p < length counts.now.rows) rows.now }
     ensures { result ≡ max number (greatest_count (count_in counts.now.rows) rows.now b) }
 {
@@ -141,6 +141,14 @@ fn members_over(
     mask
 }
 
+/// The set with the member, if it is to have it.
+fn with_if(mask: u128, member: Member, has: bool) -> u128
+    requires { member < 128 }
+    ensures { (m : ℕ) → mask_has result m ≡ (mask_has mask m || (has && member == m)) }
+{
+    if has { with_member(mask, member) } else { mask }
+}
+
 /// The members with a branch of which the first row counts more than the other.
 #[tactic(auto, using(hg_model::proofs::PlacesLaws::some_steps))]
 fn members_apart(makers: &[Member], counts: &RowCounts, other: &RowCounts) -> u128
@@ -148,11 +156,10 @@ fn members_apart(makers: &[Member], counts: &RowCounts, other: &RowCounts) -> u1
     ensures { (m : ℕ) → mask_has result m ≡ counts_more makers.now (slice_index counts.now.row) (slice_index other.now.row) m }
 {
     let mut mask = 0;
-    for b in 0..counts.reach(makers.len()) {
-        let maker = makers[b];
-        if other.at(b) < counts.at(b) {
-            mask = with_member(mask, maker);
-        }
+    let mut b = 0;
+    while b < makers.len() {
+        mask = with_if(mask, makers[b], other.at(b) < counts.at(b));
+        b = counts.next_after(b, makers.len());
     }
     mask
 }
@@ -174,11 +181,11 @@ fn members_past(
 {
     let here = row_of(counts, first);
     let mut mask = 0;
-    for b in 0..there.reach(makers.len()) {
-        let maker = makers[b];
-        if greatest(here.at(b), counts, others, b) < there.at(b) {
-            mask = with_member(mask, maker);
-        }
+    let mut b = 0;
+    while b < makers.len() {
+        let most = greatest(here.at(b), counts, others, b);
+        mask = with_if(mask, makers[b], most < there.at(b));
+        b = there.next_after(b, makers.len());
     }
     mask
 }

@@ -1,26 +1,26 @@
-ghost use Rattle.std.specs.Prelude.{◌≡◌, ◌≢◌, ◌<◌, ◌≤◌, ◌-◌, ℕ, cond, nat_lt, not, true, length, slice_index, IfOk};
+ghost use Rattle.std.specs.Prelude.{◌≡◌, ◌≢◌, ◌<◌, ◌≤◌, ◌-◌, ℕ, cond, nat_lt, not, true, length, slice_index, IfOk, OnErr, OnOk};
 ghost use Rattle.hg_model.specs.Stakes.{total};
 ghost use Rattle.hg_model.specs.Seeing.{is_supermajority};
-ghost use Rattle.hg_branches.specs.Landmarks.{landmark_at, no_first, noted_once, AreNews, AreNotedBy, AreNotedOn, HoldsChains, HoldsNewest, HoldsTops, IsLastOn, IsNeverStrong, IsWeighed, LeavesBelow, LeavesFrom, NotesAll, NotesBy, NotesOn};
+ghost use Rattle.hg_branches.specs.Landmarks.{landmark_at, noted_once, AreNotedBy, AreNotedOn, HoldsChains, HoldsNewest, HoldsTops, IsLastOn, IsNeverStrong, IsWeighed, LeavesBelow, LeavesFrom, NotesAll, NotesBy, NotesOn, AllWide, IsWidened, Widens};
+ghost use Rattle.hg_model.specs.Counts.{numbers_of};
+ghost use Rattle.hg_branches.specs.Firsts.{none_by};
 ghost use Rattle.hg_branches.specs.Lines.{is_strong_by_own};
 ghost use Rattle.hg_branches.specs.Table.{own_counts};
 
-use crate::branches::zeros;
-use crate::counts::{RowCounts, count_at};
+use crate::counts::{RowCounts, number_at};
+use crate::firsts::{Firsts, weigh_counts};
 use crate::table::CountTable;
+use crate::tops::Tops;
 use hg_bits::StakeTable;
-use hg_model::Memory;
+use hg_model::{Counts, Memory};
 use std::alloc::Global;
 use std::marker::Model;
-
-/// In place of a first descendant where there is none. A graph's ends are lower.
-const NO_FIRST: u16 = 65_535;
 
 /// Where the next row stands, which is its branch and one more than its place, and what its creator weighs.
 #[derive(Clone, Copy, Debug)]
 pub struct NextRow {
     pub branch: usize,
-    pub end: u16,
+    pub end: u32,
     pub stake: u32,
 }
 
@@ -29,31 +29,40 @@ pub struct NextRow {
 #[derive(Drop)]
 pub struct Landmark {
     /// One more than the place of the row.
-    end: u16,
+    end: u32,
     /// The row's branch.
     branch: usize,
     /// The number of the landmark before it on its branch, or 0.
-    before: u16,
+    before: u32,
     /// For each member's own branch one more than the place of the first descendant there.
-    firsts: Vec<u16>,
+    firsts: Firsts,
     /// What the members together weigh, at most, on whose own branches there is one.
     reached: u64,
 }
 
 impl Model for Landmark {
+    ghost use Rattle.hg_branches.specs.Firsts.{firsts_of, none_of};
     ghost use Rattle.hg_branches.specs.Landmarks.{LandmarkView};
 
     ghost Value = { LandmarkView };
 
-    ghost view = { λ s. record { end = s.end; branch = s.branch; before = s.before; firsts = s.firsts.items; reached = s.reached } };
+    ghost view = { λ s. record {
+      end = s.end;
+      branch = s.branch;
+      before = s.before;
+      none = none_of s.firsts;
+      firsts = firsts_of s.firsts;
+      reached = s.reached;
+    } };
 }
 
 impl Landmark {
-    /// The memory of a landmark, for a graph of so many members.
-    pub fn new(alloc: Global, members: usize) -> Result<Landmark, Memory>
-        ensures { IfOk result (λ k. length k.firsts ≡ members) }
+    /// The memory of a landmark, for a graph of so many members, of the width of its ends.
+    pub fn new(alloc: Global, members: usize, wide: bool) -> Result<Landmark, Memory>
+        ensures long { IfOk result (λ k. length k.firsts ≡ members) }
+        ensures none { IfOk result (λ k. k.none ≡ none_by wide) }
     {
-        let firsts = zeros(alloc, members)?;
+        let firsts = Firsts::new(alloc, members, wide)?;
         Ok(Landmark {
             end: 0,
             branch: 0,
@@ -64,32 +73,31 @@ impl Landmark {
     }
 
     /// Takes the last row of the graph, on this branch, behind the landmark of this number. Its maker has this stake.
-    pub fn begin(&mut self, branch: usize, end: u16, before: u16, stake: u32)
+    pub fn begin(&mut self, branch: usize, end: u32, before: u32, stake: u32)
+        requires { end < self.old.none }
         ensures end { self.new.end ≡ end }
         ensures branch { self.new.branch ≡ branch }
         ensures before { self.new.before ≡ before }
         ensures long { length self.new.firsts ≡ length self.old.firsts }
         ensures itself { branch < length self.old.firsts → slice_index self.new.firsts branch ≡ end }
-        ensures others { (b : ℕ) → b < length self.old.firsts → b ≢ branch → slice_index self.new.firsts b ≡ no_first }
+        ensures others { (b : ℕ) → b < length self.old.firsts → b ≢ branch →
+            slice_index self.new.firsts b ≡ self.old.none }
+        ensures none { self.new.none ≡ self.old.none }
         ensures reached { self.new.reached ≡ cond (nat_lt branch (length self.old.firsts)) stake 0 }
     {
         self.end = end;
         self.branch = branch;
         self.before = before;
-        clear(&mut self.firsts);
-        self.reached = 0;
-        if branch < self.firsts.len() {
-            self.firsts[branch] = end;
-            self.reached = u64::from(stake);
-        }
+        self.firsts.begin(branch, end);
+        let own = branch < self.firsts.counts().len();
+        self.reached = if own { u64::from(stake) } else { 0 };
     }
 
     /// Notes that the next row has come, which counts so much of this row's branch.
-    pub fn note(&mut self, count: u16, next: NextRow)
+    pub fn note(&mut self, count: u32, next: NextRow)
         ensures { self.new ≡ noted_once count next self.old }
     {
-        if self.end <= count && next.end < count_at(&self.firsts, next.branch) {
-            self.firsts[next.branch] = next.end;
+        if self.end <= count && self.firsts.lower(next.branch, next.end) {
             self.reached = self.reached.saturating_add(u64::from(next.stake));
         }
     }
@@ -99,7 +107,7 @@ impl Landmark {
     pub fn is_young(&self, stakes: &StakeTable) -> bool
         requires { IsWeighed stakes.now self.now }
         ensures value { result ≡ not (is_supermajority (total stakes.now) self.now.reached) }
-        ensures never { result ≡ true → IsNeverStrong stakes.now self.now.firsts }
+        ensures never { result ≡ true → IsNeverStrong stakes.now self.now }
     {
         !stakes.is_over(self.reached)
     }
@@ -113,38 +121,37 @@ impl Landmark {
         requires same { counts.now.members ≡ length self.now.firsts }
         ensures { result ≡ is_strong_by_own stakes.now self.now.firsts (own_counts counts.now x) }
     {
-        stakes.is_over(stakes.weigh_ge(counts.own(x), &self.firsts))
+        stakes.is_over(weigh_counts(stakes, counts.own(x), self.firsts.counts()))
     }
 
     /// One more than the place of the row.
-    pub fn end(&self) -> u16
+    pub fn end(&self) -> u32
         ensures { result ≡ self.now.end }
     {
         self.end
     }
 
     /// The number of the landmark before it on its branch, or 0.
-    pub fn before(&self) -> u16
+    pub fn before(&self) -> u32
         ensures { result ≡ self.now.before }
     {
         self.before
     }
 
     /// For each member's own branch one more than the place of the first descendant there.
-    pub fn firsts(&self) -> &[u16]
-        ensures { result.now ≡ self.now.firsts }
+    pub fn firsts(&self) -> Counts<'_>
+        ensures { numbers_of result ≡ self.now.firsts }
     {
-        &self.firsts
+        self.firsts.counts()
     }
-}
 
-/// Leaves no first descendant.
-fn clear(firsts: &mut [u16])
-    ensures len { length firsts.new ≡ length firsts.old }
-    ensures each { (b : ℕ) → b < length firsts.old → slice_index firsts.new b ≡ no_first }
-{
-    for b in 0..firsts.len() {
-        firsts[b] = NO_FIRST;
+    /// Keeps the first descendants in 32 bits from now on.
+    pub fn widen(&mut self, alloc: Global) -> Result<(), Memory>
+        ensures ok { OnOk result (Widens self.old self.new) }
+        ensures err { OnErr result (self.new ≡ self.old) }
+    {
+        self.firsts = self.firsts.widened(alloc)?;
+        Ok(())
     }
 }
 
@@ -152,8 +159,8 @@ fn clear(firsts: &mut [u16])
 /// row counts more than its self-parent, which counts what is `known`.
 pub fn note_all(
     landmarks: &mut [Landmark],
-    newest: &[u16],
-    tops: &[u16],
+    newest: &[u32],
+    tops: &Tops,
     known: &RowCounts,
     counts: &RowCounts,
     next: NextRow,
@@ -161,10 +168,10 @@ pub fn note_all(
     requires same { known.now.members ≡ counts.now.members }
     requires few { counts.now.members ≤ 128 }
     requires newest_all { counts.now.members ≤ length newest.now }
-    requires tops_all { counts.now.members ≤ length tops.now }
+    requires tops_all { counts.now.members ≤ length tops.now.ends }
     requires chains { HoldsChains landmarks.old }
     requires newest { HoldsNewest landmarks.old newest.now }
-    requires tops { HoldsTops landmarks.old tops.now }
+    requires tops { HoldsTops landmarks.old tops.now.ends }
     requires noted { (c : ℕ) → AreNotedBy known.now.row counts.now.row next landmarks.old c }
     ensures len { length landmarks.new ≡ length landmarks.old }
     ensures each { NotesAll counts.now.row next landmarks.old landmarks.new }
@@ -173,47 +180,36 @@ pub fn note_all(
     note_others(landmarks, newest, known, counts, next);
 }
 
-/// Marks with 1, and else 0, each lane in which a row counts more than is known, below the top. One loop without a branch,
-/// in a call of its own, where the compiler knows that the lists do not overlap: it makes vectors of it.
-#[inline(never)]
-fn mark_news(known: &[u16], tops: &[u16], counts: &[u16], news: &mut [u16])
-    requires known_all { length counts.now ≤ length known.now }
-    requires tops_all { length counts.now ≤ length tops.now }
-    requires room { length counts.now ≤ length news.old }
-    ensures len { length news.new ≡ length news.old }
-    ensures each { AreNews known.now tops.now counts.now news.new }
-{
-    for c in 0..counts.len() {
-        news[c] = u16::from(known[c] < tops[c].min(counts[c]));
-    }
-}
-
 /// Notes it in the landmarks of the members' own branches, of which these are the counts.
 fn note_own(
     landmarks: &mut [Landmark],
-    newest: &[u16],
-    tops: &[u16],
-    known: &[u16],
-    counts: &[u16],
+    newest: &[u32],
+    tops: &Tops,
+    known: Counts<'_>,
+    counts: Counts<'_>,
     next: NextRow,
 )
-    requires same { length known.now ≡ length counts.now }
-    requires few { length counts.now ≤ 128 }
-    requires newest_all { length counts.now ≤ length newest.now }
-    requires tops_all { length counts.now ≤ length tops.now }
+    requires same { length (numbers_of known) ≡ length (numbers_of counts) }
+    requires few { length (numbers_of counts) ≤ 128 }
+    requires newest_all { length (numbers_of counts) ≤ length newest.now }
+    requires tops_all { length (numbers_of counts) ≤ length tops.now.ends }
     requires chains { HoldsChains landmarks.old }
     requires newest { HoldsNewest landmarks.old newest.now }
-    requires tops { HoldsTops landmarks.old tops.now }
-    requires noted { (c : ℕ) → c < length counts.now → AreNotedBy known.now counts.now next landmarks.old c }
+    requires tops { HoldsTops landmarks.old tops.now.ends }
+    requires noted { (c : ℕ) → c < length (numbers_of counts) →
+        AreNotedBy (numbers_of known) (numbers_of counts) next landmarks.old c }
     ensures len { length landmarks.new ≡ length landmarks.old }
-    ensures done { (c : ℕ) → c < length counts.now → NotesBy counts.now next landmarks.old landmarks.new c }
-    ensures left { LeavesFrom (length counts.now) landmarks.old landmarks.new }
+    ensures done { (c : ℕ) → c < length (numbers_of counts.entry) →
+        NotesBy (numbers_of counts.entry) next landmarks.old landmarks.new c }
+    ensures left { LeavesFrom (length (numbers_of counts.entry)) landmarks.old landmarks.new }
 {
     let mut news = [0; 128];
-    mark_news(known, tops, counts, &mut news);
+    tops.mark_news(known, counts, &mut news);
     for c in 0..counts.len() {
         if news[c] > 0 {
-            note_branch(landmarks, newest, c, known[c], counts[c], next);
+            let least = number_at(known, c);
+            let count = number_at(counts, c);
+            note_branch(landmarks, newest, c, least, count, next);
         }
     }
 }
@@ -221,7 +217,7 @@ fn note_own(
 /// Notes it in the landmarks of the other branches that are counted.
 fn note_others(
     landmarks: &mut [Landmark],
-    newest: &[u16],
+    newest: &[u32],
     known: &RowCounts,
     counts: &RowCounts,
     next: NextRow,
@@ -233,12 +229,33 @@ fn note_others(
     ensures done { (c : ℕ) → counts.now.members ≤ c → NotesBy counts.now.row next landmarks.old landmarks.new c }
     ensures left { LeavesBelow counts.now.members landmarks.old landmarks.new }
 {
-    for c in counts.own().len()..counts.reach(newest.len()) {
-        let least = known.at(c);
-        let count = counts.at(c);
-        if least < count {
-            note_branch(landmarks, newest, c, least, count, next);
-        }
+    let mut c = counts.own().len();
+    while c < newest.len() {
+        note_more(landmarks, newest, c, known.at(c), counts.at(c), next);
+        c = counts.next_after(c, newest.len());
+    }
+}
+
+/// Notes it in the landmarks of branch `c`, of which the next row counts so much: there are some to note only where that is
+/// more than what its self-parent counts.
+fn note_more(
+    landmarks: &mut [Landmark],
+    newest: &[u32],
+    c: usize,
+    least: u32,
+    count: u32,
+    next: NextRow,
+)
+    requires there { c < length newest.now }
+    requires chains { HoldsChains landmarks.old }
+    requires newest { IsLastOn landmarks.old (length landmarks.old) c (slice_index newest.now c) }
+    requires noted { AreNotedOn c least count next landmarks.old }
+    ensures len { length landmarks.new ≡ length landmarks.old }
+    ensures on { NotesOn c count next landmarks.old landmarks.new }
+    ensures off { (i : ℕ) → (landmark_at landmarks.old i).branch ≢ c → landmark_at landmarks.new i ≡ landmark_at landmarks.old i }
+{
+    if least < count {
+        note_branch(landmarks, newest, c, least, count, next);
     }
 }
 
@@ -246,10 +263,10 @@ fn note_others(
 /// self-parent has as ancestor, which ends at `least` or before.
 fn note_branch(
     landmarks: &mut [Landmark],
-    newest: &[u16],
+    newest: &[u32],
     c: usize,
-    least: u16,
-    count: u16,
+    least: u32,
+    count: u32,
     next: NextRow,
 )
     requires there { c < length newest.now }
@@ -271,6 +288,19 @@ fn note_branch(
     }
 }
 
+/// Keeps the first descendants of all landmarks in 32 bits. After want of memory it does so of some.
+pub fn widen_all(landmarks: &mut [Landmark], alloc: Global) -> Result<(), Memory>
+    ensures len { length landmarks.new ≡ length landmarks.old }
+    ensures each { (i : ℕ) → i < length landmarks.old →
+        IsWidened (landmark_at landmarks.old i) (landmark_at landmarks.new i) }
+    ensures ok { OnOk result (AllWide landmarks.new) }
+{
+    for i in 0..landmarks.len() {
+        landmarks[i].widen(alloc)?;
+    }
+    Ok(())
+}
+
 /// The landmark with this index.
 pub fn landmark_of(landmarks: &[Landmark], index: usize) -> &Landmark
     requires { index < length landmarks.now }
@@ -280,15 +310,15 @@ pub fn landmark_of(landmarks: &[Landmark], index: usize) -> &Landmark
 }
 
 /// The first descendants of the landmark with this index.
-pub fn firsts_at(landmarks: &[Landmark], index: usize) -> &[u16]
+pub fn firsts_at(landmarks: &[Landmark], index: usize) -> Counts<'_>
     requires { index < length landmarks.now }
-    ensures { result.now ≡ (landmark_at landmarks.now index).firsts }
+    ensures { numbers_of result ≡ (landmark_at landmarks.now index).firsts }
 {
     landmarks[index].firsts()
 }
 
 /// One more than the place of the last landmark, or 0 where there is none.
-pub fn last_end(landmarks: &[Landmark]) -> u16
+pub fn last_end(landmarks: &[Landmark]) -> u32
     ensures none { length landmarks.now ≡ 0 → result ≡ 0 }
     ensures last { 0 < length landmarks.now → result ≡ (landmark_at landmarks.now (length landmarks.now - 1)).end }
 {

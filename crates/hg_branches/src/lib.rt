@@ -22,15 +22,18 @@
 
 mod branches;
 mod counts;
+mod firsts;
 mod forks;
 mod landmarks;
 mod links;
 mod next_row;
+mod own_counts;
 mod row_tail;
 mod seeing;
 mod sight;
 mod table;
 mod tail_blocks;
 mod tails;
+mod tops;
 
 pub use sight::BranchSight;

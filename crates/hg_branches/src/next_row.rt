@@ -1,38 +1,18 @@
-//! The numbers of a row of counts, made from those of its parents.
+//! The numbers of a row of counts behind the members' own branches, made from those of its parents.
 
 ghost use Rattle.std.specs.Prelude.{◌≡◌, ◌<◌, ◌≤◌, ◌+◌, ◌==◌, ◌^◌, ℕ, cond, max, length, slice_index, vec_capacity};
 ghost use Rattle.std.specs.List.{AllByRecursion};
-ghost use Rattle.hg_branches.specs.Table.{has_own_row, own_in, tail_next};
+ghost use Rattle.hg_branches.specs.Table.{tail_next};
 ghost use Rattle.hg_branches.specs.Tails.{place_count, place_width, tail_width};
 
 use crate::counts::raise_first;
 use crate::row_tail::RowTail;
 use crate::tail_blocks::TailBlocks;
-use hg_blocks::RowBlocks;
-
-/// Makes the row the greatest of its parents' rows, and on its own branch its end.
-pub fn join_own(row: &mut Vec<u16>, own: &RowBlocks, on: &[usize], branch: usize, end: u16)
-    requires room { own.now.width ≤ vec_capacity row.old }
-    requires places { AllByRecursion (has_own_row own.now) on.now }
-    ensures len { length row.new.items ≡ own.now.width }
-    ensures each { (b : ℕ) → b < own.now.width → slice_index row.new.items b ≡ own_in own.now on.now branch end b }
-    ensures capacity { vec_capacity row.old ≤ vec_capacity row.new }
-{
-    let members = own.width();
-    row.clear();
-    for place in on {
-        raise_row(row, own.row(*place));
-    }
-    row.resize(members, 0).unwrap();
-    if branch < members {
-        row[branch] = end;
-    }
-}
 
 /// Makes the row the greatest of its parents' tails, without the number of its own branch and cut behind its last one that
 /// is not 0. No tail tells of more than `widest` branches: where that is none, there is nothing to look at.
-pub fn join_tails(row: &mut Vec<u16>, tails: &TailBlocks, on: &[usize], own: usize, widest: usize)
-    requires short { length tails.now.rows < 2 ^ 16 }
+pub fn join_tails(row: &mut Vec<u32>, tails: &TailBlocks, on: &[usize], own: usize, widest: usize)
+    requires short { length tails.now.rows < 2 ^ 32 }
     requires places { AllByRecursion (λ p. p < length tails.now.rows) on.now }
     requires tails { AllByRecursion (λ p. tail_width tails.now.rows p ≤ widest) on.now }
     requires room { widest ≤ vec_capacity row.old }
@@ -48,8 +28,8 @@ pub fn join_tails(row: &mut Vec<u16>, tails: &TailBlocks, on: &[usize], own: usi
 }
 
 /// The same, whatever the tails tell of.
-fn join_wide_tails(row: &mut Vec<u16>, tails: &TailBlocks, on: &[usize], own: usize)
-    requires short { length tails.now.rows < 2 ^ 16 }
+fn join_wide_tails(row: &mut Vec<u32>, tails: &TailBlocks, on: &[usize], own: usize)
+    requires short { length tails.now.rows < 2 ^ 32 }
     requires places { AllByRecursion (λ p. p < length tails.now.rows) on.now }
     requires room { AllByRecursion (λ p. tail_width tails.now.rows p ≤ vec_capacity row.old) on.now }
     ensures each { (k : ℕ) → slice_index row.new.items k ≡ tail_next tails.now.rows on.now own k }
@@ -65,7 +45,7 @@ fn join_wide_tails(row: &mut Vec<u16>, tails: &TailBlocks, on: &[usize], own: us
 }
 
 /// Raises the row to these numbers. It becomes as long as they are, if it is shorter.
-fn raise_row(row: &mut Vec<u16>, others: &[u16])
+pub fn raise_row(row: &mut Vec<u32>, others: &[u32])
     requires { length others.now ≤ vec_capacity row.old }
     ensures len { length row.new.items ≡ max (length row.old.items) (length others.now) }
     ensures each { (k : ℕ) → slice_index row.new.items k ≡ max (slice_index row.old.items k) (slice_index others.now k) }
@@ -77,7 +57,7 @@ fn raise_row(row: &mut Vec<u16>, others: &[u16])
 }
 
 /// Raises the row to what a tail counts, of its own branch too.
-fn raise_tail(row: &mut Vec<u16>, tail: RowTail)
+fn raise_tail(row: &mut Vec<u32>, tail: RowTail)
     requires { place_width tail.numbers.now tail.own ≤ vec_capacity row.old }
     ensures len { length row.new.items ≡ max (length row.old.items) (place_width tail.entry.numbers.now tail.entry.own) }
     ensures each { (k : ℕ) → slice_index row.new.items k ≡
@@ -89,7 +69,7 @@ fn raise_tail(row: &mut Vec<u16>, tail: RowTail)
 }
 
 /// Raises the number before place `above`, if there is one, to `end`. Zeros fill a shorter row up to it.
-fn raise_at(row: &mut Vec<u16>, above: usize, end: u16)
+fn raise_at(row: &mut Vec<u32>, above: usize, end: u32)
     requires { above ≤ vec_capacity row.old }
     ensures len { length row.new.items ≡ max (length row.old.items) above }
     ensures each { (k : ℕ) → slice_index row.new.items k ≡ max (slice_index row.old.items k) (cond (k + 1 == above) end 0) }
@@ -102,7 +82,7 @@ fn raise_at(row: &mut Vec<u16>, above: usize, end: u16)
 }
 
 /// Makes the number before place `above` 0, if there is one.
-fn clear_at(row: &mut [u16], above: usize)
+fn clear_at(row: &mut [u32], above: usize)
     ensures len { length row.new ≡ length row.old }
     ensures each { (k : ℕ) → slice_index row.new k ≡ cond (k + 1 == above) 0 (slice_index row.old k) }
 {
@@ -112,7 +92,7 @@ fn clear_at(row: &mut [u16], above: usize)
 }
 
 /// How many numbers there are up to the last one that is not 0.
-fn len_of(row: &[u16]) -> usize
+fn len_of(row: &[u32]) -> usize
     ensures within { result ≤ length row.now }
     ensures rest { (k : ℕ) → result ≤ k → slice_index row.now k ≡ 0 }
 {

@@ -7,16 +7,16 @@ use crate::counts::count_at;
 #[derive(Clone, Copy, Debug)]
 pub struct RowTail<'a> {
     /// The numbers of the branches but for the row's own.
-    pub numbers: &'a [u16],
+    pub numbers: &'a [u32],
     /// One more than the place of the row's own branch, or 0 where it is a member's own.
     pub own: usize,
     /// What the row counts of its own branch: one more than its place in the graph.
-    pub end: u16,
+    pub end: u32,
 }
 
 impl<'a> RowTail<'a> {
     /// What the row counts of the branch at place `k`.
-    pub fn at(&self, k: usize) -> u16
+    pub fn at(&self, k: usize) -> u32
         ensures { result ≡ place_count self.now.numbers.now self.now.own self.now.end k }
     {
         let number = count_at(self.numbers, k);

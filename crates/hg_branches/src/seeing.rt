@@ -1,4 +1,5 @@
 ghost use Rattle.std.specs.Prelude.{◌≡◌, ◌<◌, ◌≤◌, ◌||◌, ◌&&◌, ◌==◌, ◌+◌, ◌^◌, ℕ, not, nat_le, length, slice_index};
+ghost use Rattle.hg_model.specs.Counts.{numbers_of};
 ghost use Rattle.hg_model.specs.Places.{some_below};
 ghost use Rattle.hg_model.specs.Stakes.{member_count};
 ghost use Rattle.hg_model.specs.Seeing.{sees};
@@ -6,10 +7,11 @@ ghost use Rattle.hg_model.specs.GraphWords.{sees_in};
 ghost use Rattle.hg_bits.specs.Masks.{mask_has};
 ghost use Rattle.hg_branches.specs.Lines.{line_sees, sees_on, seen_on, AddsOther, HasOthers, is_strong_by_firsts};
 
-use crate::counts::{RowCounts, count_at};
+use crate::counts::{RowCounts, number_at};
+use crate::firsts::weigh_counts;
 use crate::sight::BranchSight;
 use hg_bits::{mask_has, with_member};
-use hg_model::{Member, Sight};
+use hg_model::{Counts, Member, Sight};
 
 /// Whether row `x` sees row `y`.
 #[tactic(auto, unfolding(hg_model::specs::Seeing::sees))]
@@ -31,8 +33,10 @@ pub fn seers(sight: &BranchSight, makers: &[Member], counts: &RowCounts, y: usiz
     ensures { (m : ℕ) → mask_has result m ≡ seen_on sight.now.shape.links makers.now counts.now.row y m }
 {
     let mut mask = 0;
-    for b in 0..counts.reach(makers.len()) {
+    let mut b = 0;
+    while b < makers.len() {
         mask = with_seer(mask, sight, counts, b, makers[b], y);
+        b = counts.next_after(b, makers.len());
     }
     mask
 }
@@ -43,19 +47,19 @@ pub fn strong_by_firsts(
     sight: &BranchSight,
     makers: &[Member],
     counts: &RowCounts,
-    firsts: &[u16],
+    firsts: Counts<'_>,
     y: usize,
 ) -> bool
     requires place { y < length sight.now.shape.links }
     requires members { (b : ℕ) → b < length makers.now → slice_index makers.now b < 128 }
     requires places { (b : ℕ) → slice_index counts.now.row b ≤ length sight.now.shape.links }
-    requires all { length firsts.now ≡ member_count sight.now.shape.members }
-    requires own { length firsts.now ≤ length makers.now }
-    requires wide { length firsts.now ≡ counts.now.members }
-    ensures { result ≡ is_strong_by_firsts sight.now.shape makers.now firsts.now counts.now.row y }
+    requires all { length (numbers_of firsts) ≡ member_count sight.now.shape.members }
+    requires own { length (numbers_of firsts) ≤ length makers.now }
+    requires wide { length (numbers_of firsts) ≡ counts.now.members }
+    ensures { result ≡ is_strong_by_firsts sight.now.shape makers.now (numbers_of firsts.entry) counts.now.row y }
 {
     let stakes = sight.stakes();
-    let own = stakes.weigh_ge(counts.own(), firsts);
+    let own = weigh_counts(stakes, counts.own(), firsts);
     if stakes.is_over(own) {
         return true;
     }
@@ -67,7 +71,7 @@ pub fn strong_by_firsts(
 #[derive(Clone, Copy, Debug)]
 struct Target<'a> {
     row: usize,
-    firsts: &'a [u16],
+    firsts: Counts<'a>,
 }
 
 /// The members with another branch that sees the row, while their own does not.
@@ -76,13 +80,16 @@ fn others(sight: &BranchSight, makers: &[Member], counts: &RowCounts, target: Ta
     requires place { target.row < length sight.now.shape.links }
     requires members { (b : ℕ) → b < length makers.now → slice_index makers.now b < 128 }
     requires places { (b : ℕ) → slice_index counts.now.row b ≤ length sight.now.shape.links }
-    requires few { length target.firsts.now ≤ length makers.now }
-    requires wide { length target.firsts.now ≡ counts.now.members }
-    ensures { HasOthers sight.now.shape.links makers.now target.entry.firsts.now counts.now.row target.entry.row result }
+    requires few { length (numbers_of target.firsts) ≤ length makers.now }
+    requires wide { length (numbers_of target.firsts) ≡ counts.now.members }
+    ensures { HasOthers sight.now.shape.links makers.now (numbers_of target.entry.firsts) counts.now.row
+        target.entry.row result }
 {
     let mut mask = 0;
-    for b in counts.own().len()..counts.reach(makers.len()) {
+    let mut b = counts.own().len();
+    while b < makers.len() {
         mask = with_other(mask, sight, makers, counts, target, b);
+        b = counts.next_after(b, makers.len());
     }
     mask
 }
@@ -98,10 +105,11 @@ fn with_other(
 ) -> u128
     requires place { target.row < length sight.now.shape.links }
     requires branch { b < length makers.now }
-    requires other { length target.firsts.now ≤ b }
+    requires other { length (numbers_of target.firsts) ≤ b }
     requires member { slice_index makers.now b < 128 }
     requires there { slice_index counts.now.row b ≤ length sight.now.shape.links }
-    ensures { AddsOther sight.now.shape.links makers.now target.entry.firsts.now counts.now.row target.entry.row b mask result }
+    ensures { AddsOther sight.now.shape.links makers.now (numbers_of target.entry.firsts) counts.now.row
+        target.entry.row b mask result }
 {
     // No row before y sees it.
     sight.is_shaped();
@@ -110,7 +118,7 @@ fn with_other(
     }
     let maker = makers[b];
     let own = usize::from(maker);
-    if count_at(target.firsts, own) <= counts.at(own) {
+    if number_at(target.firsts, own) <= counts.at(own) {
         return mask;
     }
     with_seer(mask, sight, counts, b, maker, target.row)

@@ -1,17 +1,20 @@
-ghost use Rattle.std.specs.Prelude.{◌≡◌, ◌<◌, ◌≤◌, ◌+◌, ℕ, [], length, slice_index, IfOk};
+ghost use Rattle.std.specs.Prelude.{◌≡◌, ◌<◌, ◌≤◌, ℕ, [], length, slice_index, IfOk, OnOk};
 ghost use Rattle.hg_model.specs.Forks.{has_fork_below};
 ghost use Rattle.hg_model.specs.Shape.{shape_of};
 ghost use Rattle.hg_model.specs.GraphWords.{strongly_sees_in, IsShapedIn};
 ghost use Rattle.hg_model.specs.Stakes.{member_count};
 ghost use Rattle.hg_bits.specs.Masks.{mask_has};
+ghost use Rattle.hg_branches.specs.Firsts.{none_by};
 
 use crate::branches::{branch_for, ends_within, move_end, open_branch, zeros};
 use crate::counts::{count_at, known_place, row_of};
 use crate::forks::forked_next;
-use crate::landmarks::{Landmark, NextRow, firsts_at, landmark_of, last_end, note_all};
+use crate::landmarks::{Landmark, NextRow, firsts_at, landmark_of, last_end, note_all, widen_all};
 use crate::links::{creator_at, self_parent_at};
+use crate::own_counts::NARROW_ROWS;
 use crate::seeing;
 use crate::table::CountTable;
+use crate::tops::Tops;
 use hg_ancestry::PlacedLink;
 use hg_bits::{StakeTable, mask_has};
 use hg_blocks::Blocks;
@@ -19,8 +22,8 @@ use hg_model::{Counts, Growing, Member, Memory, Sight, is_shaped};
 use std::alloc::Global;
 use std::marker::Model;
 
-/// With as many rows a graph takes no more: their places and one stand in 16 bits, of which the greatest is no place.
-const MOST_ROWS: usize = 65_534;
+/// With so many rows a graph takes no more.
+const MOST_ROWS: usize = 4_294_967_294;
 
 /// A graph that tells its ancestry by branches. A prefix shares its sealed blocks of 64 rows.
 #[derive(Drop)]
@@ -34,7 +37,7 @@ pub struct BranchSight {
     makers: Vec<Member>,
     /// For each branch one more than the place of its last row, or 0. In a prefix it may be more, which tells nothing false of
     /// the rows that are there: a graph that is grown from it may open a branch more than it need.
-    ends: Vec<u16>,
+    ends: Vec<u32>,
     /// For each row and branch one more than the place of the branch's last row among the row's ancestors, or 0.
     counts: CountTable,
     /// For each row the members with a fork among its ancestors.
@@ -42,11 +45,13 @@ pub struct BranchSight {
     /// What is noted of rows for strongly seeing them, in the order of the graph; a prefix has none.
     landmarks: Vec<Landmark>,
     /// For each branch the number of its last landmark, or 0.
-    newest: Vec<u16>,
+    newest: Vec<u32>,
     /// For each branch the end of its last landmark, or 0.
-    tops: Vec<u16>,
+    tops: Tops,
     /// For each row the number of its landmark, or 0. Rows past its end have 0 too: a prefix has no entries.
-    numbers: Vec<u16>,
+    numbers: Vec<u32>,
+    /// Whether all landmarks, and the next one, keep their first descendants in 32 bits.
+    wide: bool,
     /// Whether there is memory for a row.
     ready: bool,
     /// The next landmark, if there is memory for one.
@@ -83,8 +88,9 @@ impl BranchSight {
             forked: Blocks::new(alloc),
             landmarks: Vec::new(alloc),
             newest: zeros(alloc, members)?,
-            tops: zeros(alloc, members)?,
+            tops: Tops::new(alloc, members)?,
             numbers: Vec::new(alloc),
+            wide: false,
             ready: false,
             spare: None,
         })
@@ -96,16 +102,16 @@ impl BranchSight {
         ensures { self.new ≡ self.old }
     {
         let end = self.links.len();
-        if self.numbers.len() == end && last_end(&self.landmarks) < end as u16 {
+        if self.numbers.len() == end && last_end(&self.landmarks) < end as u32 {
             if let Some(mut landmark) = self.spare.take() {
                 let branch = self.branches[end - 1];
                 let maker = self.makers[branch];
                 let stake = self.stakes.at(maker);
-                landmark.begin(branch, end as u16, self.newest[branch], stake);
+                landmark.begin(branch, end as u32, self.newest[branch], stake);
                 self.landmarks.push_reserved(landmark);
-                let number = self.landmarks.len() as u16;
+                let number = self.landmarks.len() as u32;
                 self.newest[branch] = number;
-                self.tops[branch] = end as u16;
+                self.tops.raise(branch, end as u32);
                 self.numbers[end - 1] = number;
             }
         }
@@ -120,13 +126,46 @@ impl BranchSight {
         }
     }
 
+    /// Takes the memory of one more row. Before the ends leave 16 bits, all first descendants are kept in 32 from then on; the
+    /// spare landmark then goes, and a later call of `reserve_landmark` takes one of that width.
+    fn reserve_row(&mut self) -> Result<(), Memory>
+        ensures room { OnOk result (1 ≤ self.new.room) }
+        ensures same { self.new.shape ≡ self.old.shape }
+    {
+        if self.ready {
+            return Ok(());
+        }
+        let rows = self.links.len();
+        if rows >= MOST_ROWS {
+            return Err(Memory);
+        }
+        self.links.reserve()?;
+        self.branches.reserve()?;
+        self.makers.reserve(1)?;
+        self.ends.reserve(1)?;
+        self.counts.reserve()?;
+        self.forked.reserve()?;
+        self.newest.reserve(1)?;
+        self.tops.reserve()?;
+        self.numbers.reserve(1)?;
+        if rows < most_rows(self.wide) {
+            self.ready = true;
+            return Ok(());
+        }
+        self.spare = None;
+        widen_all(&mut self.landmarks, self.alloc)?;
+        self.wide = true;
+        self.ready = true;
+        Ok(())
+    }
+
     /// Takes the memory of one more landmark.
     fn reserve_landmark(&mut self) -> Result<(), Memory>
         ensures { self.new ≡ self.old }
     {
         if self.spare.is_none() {
             self.landmarks.reserve(1)?;
-            let landmark = Landmark::new(self.alloc, self.stakes.len())?;
+            let landmark = Landmark::new(self.alloc, self.stakes.len(), self.wide)?;
             self.spare = Some(landmark);
         }
         Ok(())
@@ -180,6 +219,13 @@ impl BranchSight {
     {
         self.forked[x]
     }
+}
+
+/// With fewer rows a graph of this width takes one more: all ends are below what stands where there is no first descendant.
+fn most_rows(wide: bool) -> usize
+    ensures { result < none_by wide }
+{
+    if wide { MOST_ROWS } else { NARROW_ROWS }
 }
 
 /// The makers of the members' own branches.
@@ -249,7 +295,7 @@ impl Sight for BranchSight {
 
     fn counts(&self, x: usize) -> Option<Counts<'_>> {
         if self.makers.len() == self.stakes.len() {
-            Some(Counts::Narrow(self.counts.own(x)))
+            Some(self.counts.own(x))
         } else {
             None
         }
@@ -260,23 +306,8 @@ impl Growing for BranchSight {
     ghost room = { λ s. s.room };
 
     fn reserve(&mut self) -> Result<(), Memory> {
-        self.reserve_landmark()?;
-        if !self.ready {
-            if self.links.len() >= MOST_ROWS {
-                return Err(Memory);
-            }
-            self.links.reserve()?;
-            self.branches.reserve()?;
-            self.makers.reserve(1)?;
-            self.ends.reserve(1)?;
-            self.counts.reserve()?;
-            self.forked.reserve()?;
-            self.newest.reserve(1)?;
-            self.tops.reserve(1)?;
-            self.numbers.reserve(1)?;
-            self.ready = true;
-        }
-        Ok(())
+        self.reserve_row()?;
+        self.reserve_landmark()
     }
 
     fn extend(&mut self, parents: &[usize], creator: Member) {
@@ -294,7 +325,7 @@ impl Growing for BranchSight {
             creator,
         );
         let row = self.links.len();
-        let end = row as u16 + 1;
+        let end = row as u32 + 1;
         self.ready = false;
         self.counts.push(parents, branch);
         let known = row_of(&self.counts, known_place(parents, row));
@@ -312,7 +343,7 @@ impl Growing for BranchSight {
         move_end(&mut self.makers, &mut self.ends, branch, creator, end);
         self.forked.push(forked);
         open_branch(&mut self.newest, branch);
-        open_branch(&mut self.tops, branch);
+        self.tops.open(branch);
         self.numbers.push_reserved(0);
     }
 
@@ -324,13 +355,14 @@ impl Growing for BranchSight {
             links: self.links.cloned_prefix(len)?,
             branches: self.branches.prefix(len)?,
             makers: Vec::from_slice(self.alloc, &self.makers[..many])?,
-            ends: ends_within(self.alloc, &self.ends[..many], len as u16)?,
+            ends: ends_within(self.alloc, &self.ends[..many], len as u32)?,
             counts: self.counts.prefix(self.alloc, len)?,
             forked: self.forked.prefix(len)?,
             landmarks: Vec::new(self.alloc),
             newest: zeros(self.alloc, many)?,
-            tops: zeros(self.alloc, many)?,
+            tops: Tops::new(self.alloc, many)?,
             numbers: Vec::new(self.alloc),
+            wide: self.wide,
             ready: false,
             spare: None,
         })

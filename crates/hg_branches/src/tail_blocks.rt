@@ -44,7 +44,7 @@ impl TailBlocks {
 
     /// How many rows there are, where that is a number of the machine.
     pub fn len(&self) -> usize
-        requires { length self.now.rows < 2 ^ 16 }
+        requires { length self.now.rows < 2 ^ 32 }
         ensures { result ≡ length self.now.rows }
     {
         64 * self.sealed.len() + self.last.len()
@@ -53,7 +53,7 @@ impl TailBlocks {
     /// What row `x` counts of these branches.
     pub fn tail(&self, x: usize) -> RowTail<'_>
         requires place { x < length self.now.rows }
-        requires short { length self.now.rows < 2 ^ 16 }
+        requires short { length self.now.rows < 2 ^ 32 }
         ensures numbers { result.numbers.now ≡ (tail_at self.now.rows x).numbers }
         ensures own { result.own ≡ (tail_at self.now.rows x).own }
         ensures end { result.end ≡ x + 1 }
@@ -62,23 +62,23 @@ impl TailBlocks {
         RowTail {
             numbers: part.numbers(x % 64),
             own: part.own(x % 64),
-            end: x as u16 + 1,
+            end: x as u32 + 1,
         }
     }
 
     /// Of how many branches row `x` tells.
     pub fn width(&self, x: usize) -> usize
         requires place { x < length self.now.rows }
-        requires short { length self.now.rows < 2 ^ 16 }
+        requires short { length self.now.rows < 2 ^ 32 }
         ensures { result ≡ tail_width self.now.rows x }
     {
         self.tail(x).width()
     }
 
     /// What row `x` counts of the branch at place `k`.
-    pub fn at(&self, x: usize, k: usize) -> u16
+    pub fn at(&self, x: usize, k: usize) -> u32
         requires place { x < length self.now.rows }
-        requires short { length self.now.rows < 2 ^ 16 }
+        requires short { length self.now.rows < 2 ^ 32 }
         ensures { result ≡ tail_count self.now.rows x k }
     {
         self.tail(x).at(k)
@@ -96,7 +96,7 @@ impl TailBlocks {
     }
 
     /// One more row. Takes no memory.
-    pub fn push(&mut self, own: usize, numbers: &[u16])
+    pub fn push(&mut self, own: usize, numbers: &[u32])
         requires { length numbers.now < self.old.room }
         ensures { self.new.rows ≡ self.old.rows ++ record { own = own; numbers = numbers.now } ∷ [] }
     {

@@ -22,7 +22,7 @@ pub struct Tails {
     before: usize,
     /// Of each row after them the part of the numbers.
     parts: Vec<Part>,
-    numbers: Vec<u16>,
+    numbers: Vec<u32>,
 }
 
 impl Model for Tails {
@@ -75,7 +75,7 @@ impl Tails {
     /// How many rows there are, where that is a number of the machine.
     #[tactic(auto, using(crate::proofs::TailLaws::tail_reads))]
     pub fn len(&self) -> usize
-        requires { length self.now.rows < 2 ^ 16 }
+        requires { length self.now.rows < 2 ^ 32 }
         ensures { result ≡ length self.now.rows }
     {
         self.before + self.parts.len()
@@ -92,7 +92,7 @@ impl Tails {
 
     /// What row `x` counts of the others of these branches.
     #[tactic(auto, using(crate::proofs::TailLaws::tail_reads))]
-    pub fn numbers(&self, x: usize) -> &[u16]
+    pub fn numbers(&self, x: usize) -> &[u32]
         requires { x < length self.now.rows }
         ensures { result.now ≡ (tail_at self.now.rows x).numbers }
     {
@@ -111,9 +111,9 @@ impl Tails {
     }
 
     /// One more row. Takes no memory.
-    pub fn push(&mut self, own: usize, numbers: &[u16])
+    pub fn push(&mut self, own: usize, numbers: &[u32])
         requires room { length numbers.now < self.old.room }
-        requires short { length self.old.rows < 2 ^ 16 }
+        requires short { length self.old.rows < 2 ^ 32 }
         ensures { self.new.rows ≡ self.old.rows ++ record { own = own; numbers = numbers.now } ∷ [] }
     {
         if own == 0 && numbers.is_empty() && self.parts.is_empty() {

@@ -30,5 +30,5 @@ shows_to members accepts g is bytes shown shows =
 
 -- and what is shown is safe
 pub safe_beside : ShownIsSafe → (members : MemberList) (bytes : List ℕ) (shown : Certificate) → ShowsTo members bytes shown → IsSafeBeside members shown
-safe_beside law members bytes shown shows = λ accepts run is sound.
-    law accepts (accepts_signature members) (stakes_of members) members.coin run bytes shown is shows sound.few sound.apart
+safe_beside law members bytes shown shows = λ terms run is sound.
+    law terms (accepts_signature members) (stakes_of members) members.coin run bytes shown is shows sound.few sound.apart

@@ -3,7 +3,8 @@ use Rattle.std.specs.Prelude.{ℕ, ◌*◌, ◌<◌, List, Result}
 use Rattle.hg_model.specs.Stakes.{total}
 use Rattle.hg_life.specs.History.{Change}
 use Rattle.hg_life.specs.Members.{MemberList, stakes_of}
-use Rattle.hg_life.specs.Signing.{Accepts, accepts_signature}
+use Rattle.hg_life.specs.Signing.{accepts_signature}
+use Rattle.hg_life.specs.Terms.{Terms}
 use Rattle.hg_runs.specs.Further.{IsApart, dishonest_beside}
 use Rattle.hg_runs.specs.Run.{IsMoment, IsRun, Run}
 use Rattle.hg_runs.specs.Safety.{IsOnePrefix, order_after}
@@ -32,8 +33,8 @@ Agrees members shown run =
     (k : ℕ) (h : List Change) → IsMoment (stakes_of members) run k h
     → IsOnePrefix (shown_order shown) (order_after (stakes_of members) members.coin h)
 
--- so it is in every run of the members in which this holds, whatever keys its nodes have
+-- so it is in every run of the members in which this holds, whatever keys and limits its nodes have
 abbrev pub IsSafeBeside : MemberList → Certificate → Type 0
 IsSafeBeside members shown =
-    (accepts : ℕ → Accepts) (run : Run) → IsRun accepts (stakes_of members) members.coin run → IsSound members shown run
+    (terms : ℕ → Terms) (run : Run) → IsRun terms (stakes_of members) members.coin run → IsSound members shown run
     → Agrees members shown run

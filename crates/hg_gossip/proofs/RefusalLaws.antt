@@ -21,7 +21,7 @@ use Rattle.hg_life.specs.declared.answers.PutAnswer.TheVariants.{Accepted, Known
 use Rattle.hg_life.specs.Calls.{put_changes}
 use Rattle.hg_life.specs.Gossip.{count_refused}
 use Rattle.hg_life.specs.History.{Change}
-use Rattle.hg_life.specs.NodeView.{IsNode, NodeView, node_rows, with_changes}
+use Rattle.hg_life.specs.NodeView.{IsNode, NodeView, node_rows, with_changes, terms_of}
 use Rattle.hg_life.specs.Signing.{Accepts}
 use Rattle.hg_life.specs.Spelling.{Spells, spelling}
 use Rattle.hg_event.proofs.Spells.{Spells-read_event}
@@ -191,8 +191,8 @@ pub refusals_count : (K : Type 0) → RefusalsCount K
 refusals_count K rules old new events taken bytes takes refused = refused_counts rules events old new none_taken taken takes bytes refused
 
 -- a node's rows are a graph of events
-graph_of : {K : Type 0} (accepts : K → Accepts) (v : NodeView K) → IsNode accepts v → IsNodeGraph (accepts v.start.keys) v.start.members v.start.own (node_rows v)
-graph_of accepts v node = node_graph (accepts v.start.keys) v.start.members v.start.coin v.start.own v.history node.coin node.history
+graph_of : {K : Type 0} (accepts : K → Accepts) (v : NodeView K) → IsNode accepts v → IsNodeGraph (terms_of accepts v.start) v.start.members v.start.own (node_rows v)
+graph_of accepts v node = node_graph (terms_of accepts v.start) v.start.members v.start.coin v.start.own v.history node.coin node.history
 
 pub pulls_hold : (K L : Type 0) → PullsHold K L
 pulls_hold K L rules accepts old new peer taken node pulls =

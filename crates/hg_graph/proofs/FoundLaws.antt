@@ -1,7 +1,7 @@
--- Rows of an index, looked for by a name from the last of its bucket to the first
-use Rattle.std.proofs.Common.{◌≡◌, ◌≢◌, ℕ, ◌-◌, ◌<◌, ◌≤◌, false, None, List, [], ◌∷◌, ◌++◌, length, get_or, sym, ap, ◌∙◌, refl, inl, inr, arith}
+-- Rows of an index, looked for by a name down its bucket
+use Rattle.std.proofs.Common.{◌≡◌, ◌≢◌, ℕ, ◌<◌, false, None, List, [], ◌∷◌, ◌++◌, length, get_or, slice_index, sym, ap, ◌∙◌, subst, refl, arith}
 use Rattle.std.specs.Prelude.{nat_lt}
-use Rattle.std.proofs.lemmas.Bool.{cases_lt, le-ltb, false_from_ne_true}
+use Rattle.std.proofs.lemmas.Bool.{le-ltb, false_from_ne_true}
 use Rattle.std.proofs.lemmas.List.Sums.{position_or_len_is}
 use Rattle.std.proofs.lemmas.List.{length-map, map-append, get_or-map}
 use Rattle.std.proofs.Math.ListN.{get_or-map as map_read}
@@ -10,7 +10,7 @@ use Rattle.hg_model.specs.Links.{is_named, place_of, no_row}
 use Rattle.hg_model.specs.Graph.{name_at}
 use Rattle.hg_model.proofs.NameLaws.{bytes_same, distinct-push, name-at}
 use Rattle.hg_graph.specs.declared.names.HashedRow.{HashedRow}
-use Rattle.hg_graph.specs.Names.{HoldsNames, IsLastIn, bucket_at, bucket_of, hashed_at, hash_of, hashes_of, row_hash}
+use Rattle.hg_graph.specs.Names.{AreLinked, HoldsNames, IsFound, bucket_of, hashed_at, hash_of, hashes_of, row_hash}
 use Rattle.hg_graph.specs.RowsWithRoom.{found_place}
 
 -- one more row, with a name that no other has
@@ -26,30 +26,14 @@ module _ (G : List Row) (hashed : List HashedRow) (names : HoldsNames G (hashes_
 
   hash_at : (x : ℕ) → x < length G → (hashed_at hashed x).hash ≡ hash_of (name_at G x)
   hash_at x low =
-      sym (map_read (λ (e : HashedRow). e.hash) hashed x (record { hash = 0; before = 0 }))
+      sym (map_read (λ (e : HashedRow). e.hash) hashed x (record { hash = 0; even = 0; odd = 0 }))
       ∙ (ap (λ (hs : List ℕ). get_or hs x 0) names.same ∙ (get_or-map row_hash G x no_row 0 low ∙ ap hash_of (sym (name-at G x low))))
 
-  module _ (buckets : ℕ) (name : List ℕ) where
-    -- a row of this name stands in the bucket of its hash
-    in_bucket : (x : ℕ) → x < length G → name_at G x ≡ name → bucket_at buckets hashed x ≡ bucket_of buckets (hash_of name)
-    in_bucket x low is = ap (bucket_of buckets) (hash_at x low ∙ ap hash_of is)
-
-    pub none_first : (number : ℕ) → IsLastIn (bucket_at buckets hashed) (length hashed) (bucket_of buckets (hash_of name)) number →
-        (x : ℕ) → number ≤ x → x < length G → name_at G x ≢ name
-    none_first number last x from low is = last.none_later x from (omega (arith, many_rows)) (in_bucket x low is)
-
-    -- where the row at hand has another name, none has it down to the row before it in the bucket
-    pub none_next : (number : ℕ) → 0 < number → bucket_at buckets hashed (number - 1) ≡ bucket_of buckets (hash_of name) →
-        IsLastIn (bucket_at buckets hashed) (number - 1) (bucket_at buckets hashed (number - 1)) (hashed_at hashed (number - 1)).before →
-        ((x : ℕ) → number ≤ x → x < length G → name_at G x ≢ name) → (name_at G (number - 1) ≢ name) →
-        (x : ℕ) → (hashed_at hashed (number - 1)).before ≤ x → x < length G → name_at G x ≢ name
-    none_next number some on last none other x from low is = elim (cases_lt x (number - 1)) [
-      | inl below ↦ last.none_later x from below (in_bucket x low is ∙ sym on)
-      | inr above ↦ elim (cases_lt (number - 1) x) [
-        | inl past ↦ none x (omega arith) low is
-        | inr here ↦ other (ap (name_at G) (omega arith) ∙ is)
-      ]
-    ]
+  -- a row of this name is found in the bucket of its hash
+  pub found_first : (heads : List ℕ) → AreLinked heads hashed (length hashed) → (name : List ℕ) (x : ℕ) → x < length G → name_at G x ≡ name →
+      IsFound hashed x (slice_index heads (bucket_of (length heads) (hash_of name))) (hash_of name)
+  found_first heads linked name x low is =
+      subst (λ h. IsFound hashed x (slice_index heads (bucket_of (length heads) h)) h) (hash_at x low ∙ ap hash_of is) (linked.found x (omega (arith, many_rows)))
 
   -- another hash is that of another name
   pub other_hash : (x : ℕ) (name : List ℕ) → x < length G → (hashed_at hashed x).hash ≢ hash_of name → name_at G x ≢ name

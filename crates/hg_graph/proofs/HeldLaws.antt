@@ -14,7 +14,7 @@ use Rattle.hg_model.specs.Graph.{IsShaped, IsGraph}
 use Rattle.hg_model.specs.Shape.{Shape, FitsLink, first_links, shape_of, link_of, place_list, with_link}
 use Rattle.hg_model.specs.Standings.{Standing, standing_of, standings_of}
 use Rattle.hg_life.specs.Spelling.{Spells, spelling}
-use Rattle.hg_life.specs.Verdict.{row_limit}
+use Rattle.hg_life.specs.Terms.{row_limit}
 use Rattle.hg_model.specs.Prefix.{Graph, graph_of}
 use Rattle.hg_model.specs.GraphWords.{shape_in}
 use Rattle.hg_model.proofs.StandingLaws.{length-standings}

@@ -1,4 +1,4 @@
-mod ChainLaws
+mod WayLaws
 mod HashedLaws
 mod FoundLaws
 pub mod NextLaws

@@ -4,7 +4,7 @@ use Rattle.hg_model.specs.declared.row.Row.{Row}
 use Rattle.hg_model.specs.Shape.{Shape}
 use Rattle.hg_model.specs.Stakes.{member_count, total}
 use Rattle.hg_life.specs.Spelling.{Spells, spelling}
-use Rattle.hg_life.specs.Verdict.{row_limit}
+use Rattle.hg_life.specs.Terms.{row_limit}
 use Rattle.hg_model.specs.Prefix.{Graph, graph_of}
 use Rattle.hg_model.specs.GraphWords.{IsLawfulGraph, standings_in, shape_in}
 use Rattle.hg_forks.specs.SelfLinks.{self_shape}

@@ -5,7 +5,7 @@ ghost use Rattle.hg_model.specs.Forks.{forkers, forking};
 ghost use Rattle.hg_model.specs.Graph.{IsGraph};
 ghost use Rattle.hg_model.specs.Shape.{FitsLink, link_of, place_list};
 ghost use Rattle.hg_life.specs.Spelling.{spelling};
-ghost use Rattle.hg_life.specs.Verdict.{row_limit};
+ghost use Rattle.hg_life.specs.Terms.{row_limit};
 ghost use Rattle.hg_model.specs.Prefix.{graph_of};
 ghost use Rattle.hg_model.specs.GraphWords.{standings_in, shape_in};
 ghost use Rattle.hg_graph.specs.RowsWithRoom.{found_place};

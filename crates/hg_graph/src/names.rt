@@ -1,5 +1,5 @@
-ghost use Rattle.std.specs.Prelude.{◌≡◌, ◌+◌, ◌-◌, ◌<◌, ◌≤◌, ◌^◌, ℕ, length, replicate, slice_index, slice_set, [], ◌++◌, ◌∷◌, OnOk};
-ghost use Rattle.hg_graph.specs.Names.{AreLinked, HoldsIndex, HoldsNames, bucket_of, hash_of, hashes_of};
+ghost use Rattle.std.specs.Prelude.{◌≡◌, ◌+◌, ◌-◌, ◌<◌, ◌≤◌, ◌^◌, ℕ, length, replicate, [], ◌++◌, ◌∷◌, OnOk};
+ghost use Rattle.hg_graph.specs.Names.{AreLater, AreLaterBelow, AreLinked, Enters, Hangs, HoldsIndex, HoldsNames, IsUnlinked, below, bucket_of, hash_of, hashed_at, hashes_of, with_below};
 ghost use Rattle.hg_graph.specs.RowsWithRoom.{found_place};
 
 use hg_blocks::Blocks;
@@ -14,22 +14,23 @@ const FIRST_BUCKETS: usize = 64;
 /// How many buckets there are at most: a row's number is a `u32`.
 const MOST_BUCKETS: usize = 2_147_483_648;
 
-/// What an index keeps of a row.
+/// What an index keeps of a row. The number of a row is one more than its place.
 #[derive(Clone, Copy, Drop)]
 pub struct HashedRow {
     /// The hash of its name.
-    hash: u32,
-    /// The number of the row before it in its bucket, or 0. The number of a row is one more than its place.
-    before: u32,
+    hash: u64,
+    /// The numbers of the rows below it, or 0: one by the even digits that are left there, one by the odd.
+    even: u32,
+    odd: u32,
 }
 
-/// The places of rows by their names, of which it keeps hashes alone: 8 bytes for each row, and 4 to 8 for its share of
-/// the buckets. Names are digests, so their first bytes spread. A maker who tries many events can have names that fall into one
-/// bucket, and with some four thousand million tries each names of one hash: a look-up then walks them all, at most as many as
-/// a node holds rows, 16,384.
+/// The places of rows by their names, of which it keeps hashes alone: 16 bytes for each row, and 4 to 8 for its share of
+/// the buckets. Names are digests, so their first bytes spread. In a bucket the rows stand as a tree: a way goes down by
+/// the binary digits of a hash, from the last one on, to where it finds no row. A maker who tries many events can have
+/// names that fall into one bucket, but each further step down costs twice the tries, so that a look-up takes few.
 #[derive(Drop)]
 pub struct NameIndex {
-    /// For each bucket the number of its last row, or 0. There is a power of two of them.
+    /// For each bucket the number of its first row, or 0. There is a power of two of them.
     heads: Vec<u32>,
     /// The rows, each hashed.
     hashed: Vec<HashedRow>,
@@ -93,13 +94,17 @@ impl NameIndex {
     {
         let hash = hash_of(name);
         let number = self.hashed.len() as u32 + 1;
-        let before = enter(&mut self.heads, hash, number);
-        self.hashed.push_reserved(HashedRow { hash, before });
+        self.hashed.push_reserved(HashedRow {
+            hash,
+            even: 0,
+            odd: 0,
+        });
+        enter(&mut self.heads, &mut self.hashed, hash, number);
     }
 }
 
-/// The place of the row with this name, looked for in its bucket from the last row to the first. An event is looked at only
-/// where its name has the same hash.
+/// The place of the row with this name, looked for down its bucket. An event is looked at only where its name has the
+/// same hash.
 fn find(
     heads: &[u32],
     hashed: &[HashedRow],
@@ -114,47 +119,104 @@ fn find(
         return None;
     }
     let hash = hash_of(name);
+    let mut digits = hash;
     let mut number = heads[bucket_of(heads.len(), hash)] as usize;
-    'chain: while number > 0 {
+    'down: while number > 0 {
         let x = number - 1;
         let hashed_row = hashed[x];
         if hashed_row.hash == hash && events[x].row().name == *name {
             return Some(x);
         }
-        number = hashed_row.before as usize;
+        number = next_below(hashed_row, digits);
+        digits /= 2;
     }
     None
 }
 
-/// The first four bytes of a name, as a number.
-fn hash_of(name: &Name) -> u32
+/// The first eight bytes of a name, as a number.
+fn hash_of(name: &Name) -> u64
     ensures { result ≡ hash_of name.now }
 {
-    match name.first_chunk::<4>() {
-        Some(first) => u32::from_le_bytes(*first),
+    match name.first_chunk::<8>() {
+        Some(first) => u64::from_le_bytes(*first),
         None => 0,
     }
 }
 
-/// The bucket of a hash among so many.
-fn bucket_of(buckets: usize, hash: u32) -> usize
+/// The bucket of a hash among so many, by its first half: the last digits tell the way down.
+fn bucket_of(buckets: usize, hash: u64) -> usize
     requires { 0 < buckets }
     ensures value { result ≡ bucket_of buckets hash }
     ensures inside { result < buckets }
 {
-    hash as usize & (buckets - 1)
+    (hash / 4_294_967_296) as usize & (buckets - 1)
 }
 
-/// Makes the row of this number the last of its bucket, and returns the number of the one before it.
-fn enter(heads: &mut [u32], hash: u32, number: u32) -> u32
-    requires { 0 < length heads.old }
-    ensures before { result ≡ slice_index heads.old (bucket_of (length heads.old) hash) }
-    ensures heads { heads.new ≡ slice_set heads.old (bucket_of (length heads.old) hash) number }
+/// The number of the row below this one on the way by these digits, or 0.
+fn next_below(hashed_row: HashedRow, digits: u64) -> usize
+    ensures { result ≡ below hashed_row digits }
+{
+    if digits % 2 == 0 {
+        hashed_row.even as usize
+    } else {
+        hashed_row.odd as usize
+    }
+}
+
+/// The same row with the row of this number below it on that way.
+fn with_below(hashed_row: HashedRow, digits: u64, number: u32) -> HashedRow
+    ensures { result ≡ with_below hashed_row digits number }
+{
+    if digits % 2 == 0 {
+        HashedRow {
+            even: number,
+            ..hashed_row
+        }
+    } else {
+        HashedRow {
+            odd: number,
+            ..hashed_row
+        }
+    }
+}
+
+/// Puts the row of this number and hash where the way down its bucket ends.
+fn enter(heads: &mut [u32], hashed: &mut [HashedRow], hash: u64, number: u32)
+    requires some { 0 < length heads.old }
+    requires later { AreLater heads.old hashed.old (number - 1) }
+    requires number { 0 < number }
+    requires few { number ≤ length hashed.old }
+    ensures len { length heads.new ≡ length heads.old }
+    ensures entered { Enters heads.old hashed.old hash number heads.new hashed.new }
 {
     let bucket = bucket_of(heads.len(), hash);
-    let before = heads[bucket];
-    heads[bucket] = number;
-    before
+    let first = heads[bucket];
+    if first == 0 {
+        heads[bucket] = number;
+    } else {
+        hang(hashed, first as usize - 1, hash, number);
+    }
+}
+
+/// Puts the row of this number below the first one, where the way by these digits ends.
+fn hang(hashed: &mut [HashedRow], first: usize, hash: u64, number: u32)
+    requires later { AreLaterBelow hashed.old (number - 1) }
+    requires first { first + 1 < number }
+    requires few { number ≤ length hashed.old }
+    ensures { Hangs first hash number hashed.old hashed.new }
+{
+    let mut x = first;
+    let mut digits = hash;
+    'down: loop {
+        let hashed_row = hashed[x];
+        let next = next_below(hashed_row, digits);
+        if next == 0 {
+            hashed[x] = with_below(hashed_row, digits, number);
+            return;
+        }
+        x = next - 1;
+        digits /= 2;
+    }
 }
 
 /// Links all hashed rows anew, in buckets that are empty.
@@ -166,8 +228,25 @@ fn link_all(heads: &mut [u32], hashed: &mut [HashedRow])
     ensures len { length heads.new ≡ length heads.old }
     ensures linked { AreLinked heads.new hashed.new (length hashed.new) }
 {
+    unlink(hashed);
     for x in 0..hashed.len() {
-        let before = enter(heads, hashed[x].hash, x as u32 + 1);
-        hashed[x].before = before;
+        let hash = hashed[x].hash;
+        enter(heads, hashed, hash, x as u32 + 1);
+    }
+}
+
+/// Leaves no row below another.
+fn unlink(hashed: &mut [HashedRow])
+    ensures same { hashes_of hashed.new ≡ hashes_of hashed.old }
+    ensures long { length hashed.new ≡ length hashed.old }
+    ensures each { (x : ℕ) → x < length hashed.new → IsUnlinked (hashed_at hashed.new x) }
+{
+    for x in 0..hashed.len() {
+        let hash = hashed[x].hash;
+        hashed[x] = HashedRow {
+            hash,
+            even: 0,
+            odd: 0,
+        };
     }
 }

@@ -13,7 +13,7 @@ use Rattle.hg_life.specs.Spelling.{Spells}
 use Rattle.hg_life.specs.Verdict.{arrival_rule, forkers_rule, full_rule, row_verdict, made_row, making, made_or}
 use Rattle.hg_life.specs.History.{Change, IsStep}
 use Rattle.hg_life.specs.History.Change.{Took, Marked}
-use Rattle.hg_life.specs.NodeView.{NodeView, with_changes, node_rows, node_state, IsNode}
+use Rattle.hg_life.specs.NodeView.{NodeView, with_changes, node_rows, node_state, IsNode, terms_of}
 use Rattle.hg_life.specs.Calls.{put_answer, put_changes, taken_by, taken_from, make_answer, make_changes, made_by, publish_answer, publish_changes}
 use Rattle.hg_life.specs.Signing.{Accepts}
 use Rattle.hg_event.proofs.Reading.{AreBytes}
@@ -31,17 +31,18 @@ with_none {K} v es none = ap (λ (h : List Change). at h) (ap (λ (more : List C
     at h = record { start = v.start; history = h }
 
 pub node_with : {K : Type 0} (accepts : K → Accepts) (v : NodeView K) (e : Change) → IsNode accepts v →
-    IsStep (accepts v.start.keys) v.start.members v.start.coin v.start.own (node_state v) e → IsNode accepts (with_changes v (e ∷ []))
+    IsStep (terms_of accepts v.start) v.start.members v.start.coin v.start.own (node_state v) e → IsNode accepts (with_changes v (e ∷ []))
 node_with accepts v e node may = record {
   few_members = node.few_members;
   coin = node.coin;
   balances = node.balances;
-  history = history_push (accepts v.start.keys) v.start.members v.start.coin v.start.own v.history e node.history may;
+  limit = node.limit;
+  history = history_push (terms_of accepts v.start) v.start.members v.start.coin v.start.own v.history e node.history may;
 }
 
 module _ (K : Type 0) (accepts : K → Accepts) (v : NodeView K) (bytes : List ℕ) where
   abbrev here : Row → PutAnswer
-  here row = row_verdict (accepts v.start.keys) v.start.members v.start.own (node_rows v) row
+  here row = row_verdict (terms_of accepts v.start) v.start.members v.start.own (node_rows v) row
 
   taken_accepted : (answer : PutAnswer) (row : Row) (place : ℕ) → answer ≡ Accepted place → taken_by answer row ≡ Took row ∷ []
   taken_accepted answer row place is = ap (λ (a : PutAnswer). taken_by a row) is
@@ -55,10 +56,10 @@ module _ (K : Type 0) (accepts : K → Accepts) (v : NodeView K) (bytes : List �
       (place ≡ length (node_rows v)) × ((row : Row) × (read_event bytes ≡ Ok row) × (put_changes accepts v bytes ≡ Took row ∷ []))
   unfolding put_answer put_changes
   one_of_read (Err e) is place accepted =
-      (let no_row : Refused _ ≡ Accepted place = sym (ap (λ (r : Result Row ByteFault). Rattle.hg_life.specs.Verdict.verdict_of (accepts v.start.keys) v.start.members v.start.own (node_rows v) r) is) ∙ accepted in cc)
+      (let no_row : Refused _ ≡ Accepted place = sym (ap (λ (r : Result Row ByteFault). Rattle.hg_life.specs.Verdict.verdict_of (terms_of accepts v.start) v.start.members v.start.own (node_rows v) r) is) ∙ accepted in cc)
   one_of_read (Ok row) is place accepted =
-      let row_is : here row ≡ Accepted place = sym (ap (λ (r : Result Row ByteFault). Rattle.hg_life.specs.Verdict.verdict_of (accepts v.start.keys) v.start.members v.start.own (node_rows v) r) is) ∙ accepted in (
-        accepted_place (accepts v.start.keys) v.start.members v.start.own (node_rows v) row place row_is,
+      let row_is : here row ≡ Accepted place = sym (ap (λ (r : Result Row ByteFault). Rattle.hg_life.specs.Verdict.verdict_of (terms_of accepts v.start) v.start.members v.start.own (node_rows v) r) is) ∙ accepted in (
+        accepted_place (terms_of accepts v.start) v.start.members v.start.own (node_rows v) row place row_is,
         (row, is, ap (taken_from accepts v) is ∙ taken_accepted (here row) row place row_is),
       )
 
@@ -67,7 +68,7 @@ module _ (K : Type 0) (accepts : K → Accepts) (v : NodeView K) (bytes : List �
   none_of_read (Err e) is other = ap (taken_from accepts v) is
   none_of_read (Ok row) is other =
       ap (taken_from accepts v) is
-      ∙ taken_other (here row) row (λ place row_is. other place (ap (λ (r : Result Row ByteFault). Rattle.hg_life.specs.Verdict.verdict_of (accepts v.start.keys) v.start.members v.start.own (node_rows v) r) is ∙ row_is))
+      ∙ taken_other (here row) row (λ place row_is. other place (ap (λ (r : Result Row ByteFault). Rattle.hg_life.specs.Verdict.verdict_of (terms_of accepts v.start) v.start.members v.start.own (node_rows v) r) is ∙ row_is))
 
   module _ (fit : AreBytes bytes) (node : IsNode accepts v) where
     node_of_answer : (row : Row) → read_event bytes ≡ Ok row → (answer : PutAnswer) → here row ≡ answer → IsNode accepts (with_changes v (taken_by answer row))
@@ -75,7 +76,7 @@ module _ (K : Type 0) (accepts : K → Accepts) (v : NodeView K) (bytes : List �
     node_of_answer row is (Refused f) row_is = subst (IsNode accepts) (sym (with_none v [] refl)) node
     node_of_answer row is (Accepted p) row_is =
         let spells = read_event-Spells bytes row fit is in
-        let place = accepted_place (accepts v.start.keys) v.start.members v.start.own (node_rows v) row p row_is in
+        let place = accepted_place (terms_of accepts v.start) v.start.members v.start.own (node_rows v) row p row_is in
         node_with accepts v (Took row) node (record {
           spelled = subst (λ (bs : List ℕ). Spells bs row) spells.spelled spells;
           accepted = row_is ∙ ap (λ (k : ℕ). Accepted k) place;

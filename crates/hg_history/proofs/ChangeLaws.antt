@@ -10,7 +10,7 @@ use Rattle.hg_life.specs.History.Change.{Took, Made, Marked}
 use Rattle.hg_model.proofs.LongerLaws.{slice_get-append}
 use Rattle.hg_model.proofs.PushLaws.{nobody, slice_get-before, slice_get-last}
 use Rattle.hg_life.specs.Verdict.{verdict_of}
-use Rattle.hg_life.specs.Signing.{Accepts}
+use Rattle.hg_life.specs.Terms.{Terms}
 use Rattle.hg_event.proofs.Spells.{Spells-read_event}
 use Rattle.hg_history.specs.Laws.{HasChange, RowsCameByChanges, ChangesLeftRows, VerdictsAreOfBytes}
 use Rattle.hg_history.proofs.StateLaws.{rows_from}
@@ -34,24 +34,24 @@ split G more row x at = elim (cases_lt x (length G)) [
       inr cc)
 ]
 
-came_from : (accepts : Accepts) (n : Stakes) (c own : ℕ) (s : State) (h : List Change) → AreSteps accepts n c own s h → (x : ℕ) (row : Row) → slice_get (fold (step n c) s h).rows x ≡ Some row →
+came_from : (terms : Terms) (n : Stakes) (c own : ℕ) (s : State) (h : List Change) → AreSteps terms n c own s h → (x : ℕ) (row : Row) → slice_get (fold (step n c) s h).rows x ≡ Some row →
     (slice_get s.rows x ≡ Some row) ⊎ Came own h row
-came_from accepts n c own s [] steps x row at = inl at
-came_from accepts n c own s (Marked len share ∷ h) steps x row at = elim (came_from accepts n c own (with_marks n c s len share) h steps.1 x row at) [
+came_from terms n c own s [] steps x row at = inl at
+came_from terms n c own s (Marked len share ∷ h) steps x row at = elim (came_from terms n c own (with_marks n c s len share) h steps.1 x row at) [
   | inl old ↦ inl old
   | inr came ↦ inr (later own (Marked len share) h row came)
 ]
-came_from accepts n c own s (Took more ∷ h) steps x row at = elim (came_from accepts n c own (with_row n s more) h steps.1 x row at) [
+came_from terms n c own s (Took more ∷ h) steps x row at = elim (came_from terms n c own (with_row n s more) h steps.1 x row at) [
   | inr came ↦ inr (later own (Took more) h row came)
   | inl here ↦ elim (split s.rows more row x here) [
     | inl old ↦ inl old
     | inr same ↦ inr (
-      λ is. absurd ((taken_is accepts n own s.rows more steps.0).by_other (ap (λ (r : Row). r.creator) same ∙ is)),
+      λ is. absurd ((taken_is terms n own s.rows more steps.0).by_other (ap (λ (r : Row). r.creator) same ∙ is)),
       λ other. (0, ap (λ (r : Row). Some (Took r)) same),
     )
   ]
 ]
-came_from accepts n c own s (Made more ∷ h) steps x row at = elim (came_from accepts n c own (with_row n s more) h steps.1 x row at) [
+came_from terms n c own s (Made more ∷ h) steps x row at = elim (came_from terms n c own (with_row n s more) h steps.1 x row at) [
   | inr came ↦ inr (later own (Made more) h row came)
   | inl here ↦ elim (split s.rows more row x here) [
     | inl old ↦ inl old
@@ -64,7 +64,7 @@ came_from accepts n c own s (Made more ∷ h) steps x row at = elim (came_from a
 
 pub rows_came : RowsCameByChanges
 unfolding replay
-rows_came accepts n c own h is x row at = elim (came_from accepts n c own empty h is.steps x row at) [
+rows_came terms n c own h is x row at = elim (came_from terms n c own empty h is.steps x row at) [
   | inl none ↦ cc
   | inr came ↦ came
 ]
@@ -95,4 +95,4 @@ changes_left n c h row has = elim has [
 
 -- a row's bytes are read as the row
 pub verdicts_of_bytes : VerdictsAreOfBytes
-verdicts_of_bytes accepts n own G bytes row spells = ap (verdict_of accepts n own G) (Spells-read_event bytes row spells)
+verdicts_of_bytes terms n own G bytes row spells = ap (verdict_of terms n own G) (Spells-read_event bytes row spells)

@@ -23,11 +23,12 @@ use Rattle.hg_life.specs.declared.answers.PutAnswer.TheVariants.{Accepted, Known
 use Rattle.hg_life.specs.Spelling.{body_of, spelling}
 use Rattle.hg_life.specs.Reading.{read_event}
 use Rattle.hg_life.specs.Signing.{Accepts}
-use Rattle.hg_life.specs.Verdict.{arrival_rule, creator_rule, first_by, first_missing, forkers_rule, forking_with, full_rule, has_bytes, impostor_rule, made_row, member_rule, missing_rule, name_rule, row_limit, row_verdict, signature_rule, verdict_of}
+use Rattle.hg_life.specs.Verdict.{arrival_rule, creator_rule, first_by, first_missing, forkers_rule, forking_with, full_rule, has_bytes, impostor_rule, made_row, member_rule, missing_rule, name_rule, row_verdict, signature_rule, verdict_of}
 use Rattle.hg_life.specs.History.{Change, State, replay}
 use Rattle.hg_life.specs.History.Change.{Took, Made}
-use Rattle.hg_life.specs.NodeView.{NodeView, node_rows, with_changes, IsNode}
+use Rattle.hg_life.specs.NodeView.{NodeView, node_rows, with_changes, IsNode, terms_of}
 use Rattle.hg_life.specs.Calls.{put_answer, put_changes}
+use Rattle.hg_life.specs.Terms.{Terms, row_limit}
 use Rattle.hg_event.proofs.Reading.{same_done, AreBytes}
 use Rattle.hg_event.proofs.Spells.{read_event-Spells, Spells-read_event}
 use Rattle.hg_history.specs.Laws.{AcceptedIsHeld, HeldStays, KnownHasEntry, KnownIsHeld, MadeIsHeld}
@@ -109,30 +110,30 @@ module _ (G : List Row) (row : Row) where
   answer_tells None place tells = tt
   answer_tells (Some answer) place tells = tells
 
-verdict_tells : (accepts : Accepts) (n : Stakes) (own : ℕ) (G : List Row) (row : Row) → Tells G row (row_verdict accepts n own G row)
-verdict_tells accepts n own G row =
+verdict_tells : (terms : Terms) (n : Stakes) (own : ℕ) (G : List Row) (row : Row) → Tells G row (row_verdict terms n own G row)
+verdict_tells terms n own G row =
     let member = refused_where G row (nat_le (member_count n) row.creator) (fault.Member row.creator) None tt in
     let known = name_tells G row (is_held G row.name) (has_bytes G (place_of G row.name) (spelling row)) refl refl in
-    let signature = refused_but G row (accepts row.creator (body_of row) row.sig) fault.Signature in
+    let signature = refused_but G row (terms.accepts row.creator (body_of row) row.sig) fault.Signature in
     let impostor = refused_where G row (eqb row.creator own) fault.Impostor None tt in
     let forks = refused_where G row (nat_le (total n) (3 * forking_with n G row)) (fault.TooManyForkers (forking_with n G row)) None tt in
-    let full = refused_where G row (nat_le row_limit (length G)) (fault.Full row_limit) None tt in
-    answer_tells G row (option_or (arrival_rule accepts n own G row) (option_or (forkers_rule n G row) (full_rule G))) (length G)
-    (either_tells G row (arrival_rule accepts n own G row) _
+    let full = refused_where G row (nat_le terms.limit (length G)) (fault.Full terms.limit) None tt in
+    answer_tells G row (option_or (arrival_rule terms.accepts n own G row) (option_or (forkers_rule n G row) (full_rule terms.limit G))) (length G)
+    (either_tells G row (arrival_rule terms.accepts n own G row) _
     (either_tells G row (member_rule n row) _ member
     (either_tells G row (name_rule G row) _ known
-    (either_tells G row (signature_rule accepts row) _ signature
+    (either_tells G row (signature_rule terms.accepts row) _ signature
     (either_tells G row (impostor_rule own row) _ impostor
     (either_tells G row (missing_rule G row.parents) (creator_rule G row.creator row.parents) (missing_tells G row row.parents) (creators_tell G row row.creator row.parents))))))
-    (either_tells G row (forkers_rule n G row) (full_rule G) forks full))
+    (either_tells G row (forkers_rule n G row) (full_rule terms.limit G) forks full))
 
 module _ (K : Type 0) (accepts : K → Accepts) (v : NodeView K) (bytes : List ℕ) (row : Row) (place : ℕ) (is : read_event bytes ≡ Ok row) (known : put_answer accepts v bytes ≡ Known place) where
   known_tells : Tells (node_rows v) row (Known place)
   unfolding put_answer
   known_tells =
-      let answer : row_verdict (accepts v.start.keys) v.start.members v.start.own (node_rows v) row ≡ Known place =
-      sym (ap (λ (read : Result Row ByteFault). verdict_of (accepts v.start.keys) v.start.members v.start.own (node_rows v) read) is) ∙ known in
-      subst (Tells (node_rows v) row) answer (verdict_tells (accepts v.start.keys) v.start.members v.start.own (node_rows v) row)
+      let answer : row_verdict (terms_of accepts v.start) v.start.members v.start.own (node_rows v) row ≡ Known place =
+      sym (ap (λ (read : Result Row ByteFault). verdict_of (terms_of accepts v.start) v.start.members v.start.own (node_rows v) read) is) ∙ known in
+      subst (Tells (node_rows v) row) answer (verdict_tells (terms_of accepts v.start) v.start.members v.start.own (node_rows v) row)
 
   known_inside : place < length (node_rows v)
   known_inside = (let inside = ltb-true (place_of (node_rows v) row.name) (length (node_rows v)) known_tells.1 in omega (arith, known_tells.0))
@@ -143,7 +144,7 @@ module _ (K : Type 0) (accepts : K → Accepts) (v : NodeView K) (bytes : List �
       let G : List Row = node_rows v in
       let there : Row = get_or G place nobody in
       let at : slice_get G place ≡ Some there = slice_get-get_or G place nobody known_inside in
-      let event = (node_graph (accepts v.start.keys) v.start.members v.start.coin v.start.own v.history node.coin node.history).events place there at in
+      let event = (node_graph (terms_of accepts v.start) v.start.members v.start.coin v.start.own v.history node.coin node.history).events place there at in
       let alike = bytes_same (spelling there) (spelling row) (subst (λ (o : Option Row). bytes_eq (unwrap_or (option_map spelling o) []) (spelling row) ≡ true) at known_tells.2) in
       let spelled : spelling row ≡ bytes = sym (read_event-Spells bytes row fit is).spelled in
       at ∙ ap (λ (r : Row). Some r) (same_done there row (sym (Spells-read_event (spelling there) there event.spelled) ∙ (ap read_event (alike ∙ spelled) ∙ is)))

@@ -14,7 +14,7 @@ use Rattle.hg_model.specs.Fame.{Marks, fame_marks, is_closed}
 use Rattle.hg_model.specs.Order.{sort_by, comes_before, keyed_at, is_received_in, ordered_in, ordered, Ordered, named_in, last_closed, coin_at, order_of}
 use Rattle.hg_life.specs.History.{Change, replay, IsHistory}
 use Rattle.hg_life.specs.Kept.{kept, kept_by_names}
-use Rattle.hg_life.specs.Signing.{Accepts}
+use Rattle.hg_life.specs.Terms.{Terms}
 use Rattle.hg_model.specs.Orders.{IsPrefix, marked_order_by_names}
 use Rattle.hg_model.proofs.LinkLaws.{length-links}
 use Rattle.hg_model.proofs.ListLaws.{all_list_below}
@@ -77,12 +77,12 @@ prefix_by_places n G U f h distinct first names = (
 pub stands_as_first : (G U : List Row) → IsPrefix G U → StandsIn G U
 stands_as_first G U first = subst (StandsIn G) (sym first.1) (stands_in_longer G first.0)
 
-module _ (accepts : Accepts) (n : Stakes) (c own : ℕ) (a b : List Change) (three : 2 < c) (is : IsHistory accepts n c own (a ++ b)) where
-  early : IsSound accepts n c own (replay n c a)
-  early = sound accepts n c own a three (moment accepts n c own a b is)
+module _ (terms : Terms) (n : Stakes) (c own : ℕ) (a b : List Change) (three : 2 < c) (is : IsHistory terms n c own (a ++ b)) where
+  early : IsSound terms n c own (replay n c a)
+  early = sound terms n c own a three (moment terms n c own a b is)
 
-  late : IsSound accepts n c own (replay n c (a ++ b))
-  late = sound accepts n c own (a ++ b) three is
+  late : IsSound terms n c own (replay n c (a ++ b))
+  late = sound terms n c own (a ++ b) three is
 
   fewer : last_closed n (links (replay n c a).rows) (replay n c a).marks ≤ last_closed n (links (replay n c (a ++ b)).rows) (replay n c (a ++ b)).marks
   fewer =
@@ -92,7 +92,7 @@ module _ (accepts : Accepts) (n : Stakes) (c own : ℕ) (a b : List Change) (thr
       elim (cases_lt 0 m) [
         | inl some ↦ (
             let here = closed_up_to n (links s.rows) early.graph.shaped.earlier s.marks m some (omega arith) in
-            let there = closed_later accepts n c own a b three is m (subst (λ (L : List Link). is_closed n L s.marks m ≡ true) (sym early.linked) here) in
+            let there = closed_later terms n c own a b three is m (subst (λ (L : List Link). is_closed n L s.marks m ≡ true) (sym early.linked) here) in
             (closed_last n (links t.rows) late.graph.shaped.earlier t.marks m (subst (λ (L : List Link). is_closed n L t.marks m ≡ true) late.linked there)).1)
         | inr none ↦ omega arith
       ]
@@ -107,7 +107,7 @@ module _ (accepts : Accepts) (n : Stakes) (c own : ℕ) (a b : List Change) (thr
       order_prefix n c U late.graph three G U (replay n c a).marks (replay n c (a ++ b)).marks
       (record { graph = early.graph; stands = stands_as_first G U first_rows; fame = early.fame })
       (record { graph = late.graph; stands = stands_in_itself U; fame = late.fame })
-      fewer 48 (node_graph accepts n c own a three (moment accepts n c own a b is)).sizes (node_graph accepts n c own (a ++ b) three is).sizes
+      fewer 48 (node_graph terms n c own a three (moment terms n c own a b is)).sizes (node_graph terms n c own (a ++ b) three is).sizes
 
   pub order_grows : IsPrefix (kept n (replay n c a)) (kept n (replay n c (a ++ b)))
   order_grows =
@@ -124,9 +124,9 @@ module _ (accepts : Accepts) (n : Stakes) (c own : ℕ) (a b : List Change) (thr
       subst (λ (L : List Link). IsPrefix (map (named_in s.rows) (ordered n s.rows L s.marks)) (kept_by_names n t)) (sym early.linked)
       (subst (λ (L : List Link). IsPrefix (marked_order_by_names n s.rows s.marks) (map (named_in t.rows) (ordered n t.rows L t.marks))) (sym late.linked) names_of_rows)
 
-module _ (accepts : Accepts) (n : Stakes) (c own : ℕ) (h : List Change) (three : 2 < c) (is : IsHistory accepts n c own h) where
-  now : IsSound accepts n c own (replay n c h)
-  now = sound accepts n c own h three is
+module _ (terms : Terms) (n : Stakes) (c own : ℕ) (h : List Change) (three : 2 < c) (is : IsHistory terms n c own h) where
+  now : IsSound terms n c own (replay n c h)
+  now = sound terms n c own h three is
 
   pub kept_of_graph : IsPrefix (kept n (replay n c h)) (order_of n c (replay n c h).rows)
   unfolding order_of
@@ -135,7 +135,7 @@ module _ (accepts : Accepts) (n : Stakes) (c own : ℕ) (h : List Change) (three
       let G : List Row = s.rows in
       let own_marks = fame_marks n c (links G) (coin_at G) in
       let part : IsMarkedPart n c G G s.marks = record { graph = now.graph; stands = stands_in_itself G; fame = now.fame } in
-      let sizes = (node_graph accepts n c own h three is).sizes in
+      let sizes = (node_graph terms n c own h three is).sizes in
       subst (λ (L : List Link). IsPrefix (ordered n G L s.marks) (ordered n G (links G) own_marks)) (sym now.linked)
       (prefix_by_places n G G s.marks own_marks now.graph.distinct ([], sym (Rattle.std.proofs.lemmas.List.append-nil G))
       (order_prefix n c G now.graph three G G s.marks own_marks part (record { graph = now.graph; stands = stands_in_itself G; fame = own_fame n c G })

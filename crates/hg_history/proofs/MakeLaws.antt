@@ -13,7 +13,7 @@ use Rattle.hg_life.specs.Spelling.{AreNames, body_of, spelling, Spells}
 use Rattle.hg_life.specs.Verdict.{last_name, parents_on, made_row, making}
 use Rattle.hg_life.specs.History.{Change, IsMade}
 use Rattle.hg_life.specs.History.Change.{Made}
-use Rattle.hg_life.specs.NodeView.{NodeView, with_changes, node_rows, IsNode}
+use Rattle.hg_life.specs.NodeView.{NodeView, with_changes, node_rows, IsNode, terms_of}
 use Rattle.hg_life.specs.Calls.{make_answer, make_changes, make_body, make_draft, made_by}
 use Rattle.hg_life.specs.Signing.{Accepts}
 use Rattle.hg_model.specs.Orders.{HasNameSizes}
@@ -60,15 +60,15 @@ made_spells n own G others time payload sig few small early sized sizes draft = 
 
 module _ (K : Type 0) (accepts : K → Accepts) (v : NodeView K) (others : List (List ℕ)) (time : ℕ) (payload sig : List ℕ) (few_others : length others ≤ most_others)
     (early : time < 2 ^ 64) (sized : length sig ≡ 64) (signed : make_draft v others payload ≡ None → accepts v.start.keys v.start.own (make_body v others time payload) sig ≡ true) (node : IsNode accepts v) where
-  is_made : (place : ℕ) → making v.start.own (node_rows v) others time payload sig ≡ answer.Made place →
-      IsMade (accepts v.start.keys) v.start.own (node_rows v) (made_row v.start.own (node_rows v) others time payload sig)
+  is_made : (place : ℕ) → making v.start.limit v.start.own (node_rows v) others time payload sig ≡ answer.Made place →
+      IsMade (terms_of accepts v.start) v.start.own (node_rows v) (made_row v.start.own (node_rows v) others time payload sig)
   unfolding make_body make_draft body_of
   is_made place is =
       let own = v.start.own in
       let G : List Row = node_rows v in
-      let s = sound (accepts v.start.keys) v.start.members v.start.coin own v.history node.coin node.history in
-      let sizes = (node_graph (accepts v.start.keys) v.start.members v.start.coin own v.history node.coin node.history).sizes in
-      let none = made_draft own G others time payload sig place is in
+      let s = sound (terms_of accepts v.start) v.start.members v.start.coin own v.history node.coin node.history in
+      let sizes = (node_graph (terms_of accepts v.start) v.start.members v.start.coin own v.history node.coin node.history).sizes in
+      let none = made_draft v.start.limit own G others time payload sig place is in
       let draft = drafted v.start.members own G others payload s.graph.distinct none in
       let low : own < member_count v.start.members = node.history.member in
       let few : member_count v.start.members ≤ 128 = node.few_members in

@@ -11,7 +11,7 @@ use Rattle.hg_model.specs.Shares.{whole}
 use Rattle.hg_life.specs.History.{Change, State, news, replay}
 use Rattle.hg_life.specs.Kept.{kept}
 use Rattle.hg_life.specs.History.Change.{Marked}
-use Rattle.hg_life.specs.NodeView.{NodeView, with_changes, node_rows, node_state, IsNode}
+use Rattle.hg_life.specs.NodeView.{NodeView, with_changes, node_rows, node_state, IsNode, terms_of}
 use Rattle.hg_life.specs.Calls.{publish_answer, publish_changes, settle_changes, IsSettled}
 use Rattle.hg_life.specs.Signing.{Accepts}
 use Rattle.hg_history.specs.Laws.{SettlesAll}
@@ -57,8 +57,8 @@ module _ (K : Type 0) (accepts : K → Accepts) (v : NodeView K) (node : IsNode 
       let t = settled_state b in
       let after = publishes_leave_a_node K accepts v (length (node_rows v)) whole (omega arith) node in
       let same : node_state (with_changes v (settle_changes v)) ≡ t = ap (λ (d : Bool). replay v.start.members v.start.coin (v.history ++ cond d [] (Marked (length (node_rows v)) whole ∷ []))) is in
-      let s = subst (IsSound (accepts v.start.keys) v.start.members v.start.coin v.start.own) same
-      (sound (accepts v.start.keys) v.start.members v.start.coin v.start.own (v.history ++ settle_changes v) node.coin after.history) in
+      let s = subst (IsSound (terms_of accepts v.start) v.start.members v.start.coin v.start.own) same
+      (sound (terms_of accepts v.start) v.start.members v.start.coin v.start.own (v.history ++ settle_changes v) node.coin after.history) in
       let rows = rows_settled b in
       let none : news v.start.members v.start.coin t (length t.rows) whole ≡ 0 = ap (λ (G : List Row). news v.start.members v.start.coin t (length G) whole) rows ∙ no_news b is in
       let marks = marks_are_all v.start.members v.start.coin t s.even s.linked 1 (omega arith) (one_share v.start.members v.start.coin t none) s.fame in

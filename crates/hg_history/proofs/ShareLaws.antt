@@ -75,9 +75,9 @@ marked_value None fame v is = (v, is)
 marked_value (Some w) fame v is = (w, refl)
 
 pub shares_are_all : SharesAreAll
-shares_are_all accepts n c own h three is m pos =
+shares_are_all terms n c own h three is m pos =
     let s = replay n c h in
-    let now = sound accepts n c own h three is in
+    let now = sound terms n c own h three is in
     subst (λ (t : State). (t.rows ≡ s.rows) × (t.marks ≡ fame_marks n c (links s.rows) (coin_at s.rows)))
     (sym (replay-append n c h (shares_published (length s.rows) m m))) (all_marked n c s now.graph now.linked m now.even now.fame pos)
 

@@ -13,7 +13,7 @@ use Rattle.hg_model.specs.Order.{sort_by, comes_before, keyed_at, is_received_in
 use Rattle.hg_life.specs.History.{Change, State, with_row, replay, IsHistory}
 use Rattle.hg_life.specs.Kept.{kept, kept_in, kept_up_to}
 use Rattle.hg_life.specs.History.Change.{Took, Made, Marked}
-use Rattle.hg_life.specs.Signing.{Accepts}
+use Rattle.hg_life.specs.Terms.{Terms}
 use Rattle.hg_model.specs.Orders.{IsPrefix}
 use Rattle.hg_model.proofs.LinkLaws.{length-links}
 use Rattle.hg_model.proofs.LongerLaws.{slice_get-append}
@@ -112,19 +112,19 @@ module _ (n : Stakes) (c : ℕ) (U : List Row) (u : IsGraph n U) (three : 2 < c)
       (list_below-longer (keyed_at n U (links U) h) (length (links G)) (length (links U)) (is_received_in n (links U) h (λ i. eqb i r)) (let le = more in omega (arith, length-links G, length-links U)) none_later
       ∙ list_below-same (keyed_at n U (links U) h) (keyed_at n G (links G) f) (length (links G)) (is_received_in n (links U) h (λ i. eqb i r)) (is_received_in n (links G) f (λ i. eqb i r)) same_received same_keyed)
 
-module _ (accepts : Accepts) (n : Stakes) (c own : ℕ) (a b : List Change) (three : 2 < c) (is : IsHistory accepts n c own (a ++ b)) where
-  early : IsSound accepts n c own (replay n c a)
-  early = sound accepts n c own a three (moment accepts n c own a b is)
+module _ (terms : Terms) (n : Stakes) (c own : ℕ) (a b : List Change) (three : 2 < c) (is : IsHistory terms n c own (a ++ b)) where
+  early : IsSound terms n c own (replay n c a)
+  early = sound terms n c own a three (moment terms n c own a b is)
 
-  late : IsSound accepts n c own (replay n c (a ++ b))
-  late = sound accepts n c own (a ++ b) three is
+  late : IsSound terms n c own (replay n c (a ++ b))
+  late = sound terms n c own (a ++ b) three is
 
   pub kept_in_stays : (r : ℕ) → is_closed n (replay n c a).links (replay n c a).marks r ≡ true → kept_in n (replay n c (a ++ b)) r ≡ kept_in n (replay n c a) r
   kept_in_stays r closed =
       let s = replay n c a in
       let t = replay n c (a ++ b) in
       let first = rows_grow n c a b in
-      let later = closed_later accepts n c own a b three is r closed in
+      let later = closed_later terms n c own a b three is r closed in
       ap (λ (L : List Link). ordered_in n t.rows L t.marks (λ i. eqb i r)) late.linked
       ∙ (round_stays n c t.rows late.graph three s.rows s.marks t.marks
       (record { graph = early.graph; stands = stands_as_first s.rows t.rows first; fame = early.fame })
@@ -143,24 +143,24 @@ module _ (accepts : Accepts) (n : Stakes) (c own : ℕ) (a b : List Change) (thr
       (kept_in_stays (suc m) (closed_up_to n s.links e s.marks (suc m) (omega arith) le))
 
 pub rounds_stay : RoundsStay
-rounds_stay accepts n c own a b three is r closed = kept_in_stays accepts n c own a b three is r closed
+rounds_stay terms n c own a b three is r closed = kept_in_stays terms n c own a b three is r closed
 
 pub by_rounds : OrderByRounds
-by_rounds accepts n c own h three is =
-    let s = sound accepts n c own h three is in
+by_rounds terms n c own h three is =
+    let s = sound terms n c own h three is in
     order_by_rounds n (replay n c h) (subst (λ (L : List Link). IsEarlier (parents L)) (sym s.linked) s.graph.shaped.earlier)
 
 -- a row that comes
 
-module _ (accepts : Accepts) (n : Stakes) (c own : ℕ) (h : List Change) (e : Change) (three : 2 < c) (is : IsHistory accepts n c own (h ++ e ∷ [])) (row : Row)
+module _ (terms : Terms) (n : Stakes) (c own : ℕ) (h : List Change) (e : Change) (three : 2 < c) (is : IsHistory terms n c own (h ++ e ∷ [])) (row : Row)
     (came : replay n c (h ++ e ∷ []) ≡ with_row n (replay n c h) row) where
-  before : IsSound accepts n c own (replay n c h)
-  before = sound accepts n c own h three (moment accepts n c own h (e ∷ []) is)
+  before : IsSound terms n c own (replay n c h)
+  before = sound terms n c own h three (moment terms n c own h (e ∷ []) is)
 
-  after : IsSound accepts n c own (with_row n (replay n c h) row)
-  after = subst (IsSound accepts n c own) came (sound accepts n c own (h ++ e ∷ []) three is)
+  after : IsSound terms n c own (with_row n (replay n c h) row)
+  after = subst (IsSound terms n c own) came (sound terms n c own (h ++ e ∷ []) three is)
 
-  earlier_of : (s : State) → IsSound accepts n c own s → IsEarlier (parents s.links)
+  earlier_of : (s : State) → IsSound terms n c own s → IsEarlier (parents s.links)
   earlier_of s now = subst (λ (L : List Link). IsEarlier (parents L)) (sym now.linked) now.graph.shaped.earlier
 
   closes_none : (r : ℕ) → is_closed n (with_row n (replay n c h) row).links (with_row n (replay n c h) row).marks r ≡ true → is_closed n (replay n c h).links (replay n c h).marks r ≡ true
@@ -171,7 +171,7 @@ module _ (accepts : Accepts) (n : Stakes) (c own : ℕ) (h : List Change) (e : C
       (closed_before_row n c s row before.graph after.graph before.even three before.linked after.linked before.fame r
       (subst (λ (L : List Link). is_closed n L t.marks r ≡ true) after.linked closed))
 
-  no_later : (s t : State) → IsSound accepts n c own s → IsSound accepts n c own t → ((r : ℕ) → is_closed n s.links s.marks r ≡ true → is_closed n t.links t.marks r ≡ true) →
+  no_later : (s t : State) → IsSound terms n c own s → IsSound terms n c own t → ((r : ℕ) → is_closed n s.links s.marks r ≡ true → is_closed n t.links t.marks r ≡ true) →
       last_closed n s.links s.marks ≤ last_closed n t.links t.marks
   no_later s t now then keeps = elim (cases_lt 0 (last_closed n s.links s.marks)) [
     | inl some ↦ (closed_last n t.links (earlier_of t then) t.marks (last_closed n s.links s.marks)
@@ -183,7 +183,7 @@ module _ (accepts : Accepts) (n : Stakes) (c own : ℕ) (h : List Change) (e : C
   same_last =
       let s = replay n c h in
       let t = with_row n s row in
-      let up = no_later s t before after (λ r closed. subst (λ (u : State). is_closed n u.links u.marks r ≡ true) came (closed_later accepts n c own h (e ∷ []) three is r closed)) in
+      let up = no_later s t before after (λ r closed. subst (λ (u : State). is_closed n u.links u.marks r ≡ true) came (closed_later terms n c own h (e ∷ []) three is r closed)) in
       let down = no_later t s after before closes_none in
       omega arith
 
@@ -193,13 +193,13 @@ module _ (accepts : Accepts) (n : Stakes) (c own : ℕ) (h : List Change) (e : C
       let t = replay n c (h ++ e ∷ []) in
       let last : last_closed n t.links t.marks ≡ last_closed n s.links s.marks = ap (λ (u : State). last_closed n u.links u.marks) came ∙ same_last in (
         last,
-        by_rounds accepts n c own (h ++ e ∷ []) three is
+        by_rounds terms n c own (h ++ e ∷ []) three is
             ∙ (ap (kept_up_to n t) last
-            ∙ (kept_up_to_stays accepts n c own h (e ∷ []) three is (last_closed n s.links s.marks) (omega arith)
-            ∙ sym (by_rounds accepts n c own h three (moment accepts n c own h (e ∷ []) is)))),
+            ∙ (kept_up_to_stays terms n c own h (e ∷ []) three is (last_closed n s.links s.marks) (omega arith)
+            ∙ sym (by_rounds terms n c own h three (moment terms n c own h (e ∷ []) is)))),
       )
 
 pub rows_leave_the_order : RowsLeaveTheOrder
-rows_leave_the_order accepts n c own h (Took row) three is came = row_leaves_order accepts n c own h (Took row) three is row (replay-push n c h (Took row))
-rows_leave_the_order accepts n c own h (Made row) three is came = row_leaves_order accepts n c own h (Made row) three is row (replay-push n c h (Made row))
-rows_leave_the_order accepts n c own h (Marked len share) three is came = absurd came
+rows_leave_the_order terms n c own h (Took row) three is came = row_leaves_order terms n c own h (Took row) three is row (replay-push n c h (Took row))
+rows_leave_the_order terms n c own h (Made row) three is came = row_leaves_order terms n c own h (Made row) three is row (replay-push n c h (Made row))
+rows_leave_the_order terms n c own h (Marked len share) three is came = absurd came

@@ -22,7 +22,7 @@ use Rattle.hg_life.specs.Verdict.{making}
 use Rattle.hg_model.specs.Shares.{whole, share_fame}
 use Rattle.hg_life.specs.History.{Change, replay, news, IsTaken, IsMade, MarksSome, IsHistory}
 use Rattle.hg_life.specs.History.Change.{Took, Made, Marked}
-use Rattle.hg_life.specs.Signing.{Accepts}
+use Rattle.hg_life.specs.Terms.{Terms, row_limit}
 use Rattle.hg_history.proofs.SoundLaws.{history_push}
 
 -- the stakes of so many members
@@ -37,9 +37,9 @@ name a b c d e f = to_be_bytes w64 a ++ (to_be_bytes w64 b ++ (to_be_bytes w64 c
 abbrev pub row : ℕ → ParentNames → ℕ → List ℕ → Row
 row m parents time name = record { creator = m; parents = parents; time = time; payload = []; sig = replicate 64 time; name = name }
 
--- each signature is accepted
-abbrev pub all : Accepts
-all m body sig = true
+-- each signature is accepted, and there may be many rows
+abbrev pub all : Terms
+all = record { accepts = λ m body sig. true; limit = row_limit }
 
 event : (m : ℕ) (parents : ParentNames) (time : ℕ) (name : List ℕ) → m < 2 ^ 16 → IfSome parents AreNames → time < 2 ^ 64 →
     sha384 (spelling (row m parents time name)) ≡ name → Spells (spelling (row m parents time name)) (row m parents time name)
@@ -173,7 +173,7 @@ named8 = refl
 event8 : Spells (spelling row8) row8
 event8 = event 0 (Some (name6, name7 ∷ name5 ∷ [])) 9 name8 (omega arith) (record { few = refl; first = refl; others = (refl, (refl, tt)) }) (omega arith) named8
 
-making0 : making 1 ([]) [] 2 [] (replicate 64 2) ≡ answer.Made 0
+making0 : making row_limit 1 ([]) [] 2 [] (replicate 64 2) ≡ answer.Made 0
 unfolding first_words schedule rounds compress hash_after digest_bytes sha384
 making0 = refl
 
@@ -198,7 +198,7 @@ taken2 : IsTaken all (members 2) 1 (row0 ∷ row1 ∷ []) row2
 unfolding forking total has_fork is_fork is_self_ancestor weight_below some_below reaches by_place values_below self_parent parents creator links
 taken2 = record { spelled = event2; accepted = refl }
 
-making3 : making 1 (row0 ∷ row1 ∷ row2 ∷ []) (name2 ∷ []) 4 [] (replicate 64 4) ≡ answer.Made 3
+making3 : making row_limit 1 (row0 ∷ row1 ∷ row2 ∷ []) (name2 ∷ []) 4 [] (replicate 64 4) ≡ answer.Made 3
 unfolding first_words schedule rounds compress hash_after digest_bytes sha384
 making3 = refl
 
@@ -219,7 +219,7 @@ taken4 : IsTaken all (members 2) 1 (row0 ∷ row1 ∷ row2 ∷ row3 ∷ []) row4
 unfolding forking total has_fork is_fork is_self_ancestor weight_below some_below reaches by_place values_below self_parent parents creator links
 taken4 = record { spelled = event4; accepted = refl }
 
-making5 : making 1 (row0 ∷ row1 ∷ row2 ∷ row3 ∷ row4 ∷ []) (name4 ∷ []) 6 [] (replicate 64 6) ≡ answer.Made 5
+making5 : making row_limit 1 (row0 ∷ row1 ∷ row2 ∷ row3 ∷ row4 ∷ []) (name4 ∷ []) 6 [] (replicate 64 6) ≡ answer.Made 5
 unfolding first_words schedule rounds compress hash_after digest_bytes sha384
 making5 = refl
 
@@ -240,7 +240,7 @@ taken6 : IsTaken all (members 2) 1 (row0 ∷ row1 ∷ row2 ∷ row3 ∷ row4 ∷
 unfolding forking total has_fork is_fork is_self_ancestor weight_below some_below reaches by_place values_below self_parent parents creator links
 taken6 = record { spelled = event6; accepted = refl }
 
-making7 : making 1 (row0 ∷ row1 ∷ row2 ∷ row3 ∷ row4 ∷ row5 ∷ row6 ∷ []) (name6 ∷ []) 8 [] (replicate 64 8) ≡ answer.Made 7
+making7 : making row_limit 1 (row0 ∷ row1 ∷ row2 ∷ row3 ∷ row4 ∷ row5 ∷ row6 ∷ []) (name6 ∷ []) 8 [] (replicate 64 8) ≡ answer.Made 7
 unfolding first_words schedule rounds compress hash_after digest_bytes sha384
 making7 = refl
 

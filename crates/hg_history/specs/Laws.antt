@@ -13,7 +13,7 @@ use Rattle.hg_model.specs.Fame.{mark_at, fame_marks, is_closed}
 use Rattle.hg_model.specs.Order.{coin_at, order_of, last_closed}
 use Rattle.hg_life.specs.Spelling.{body_of, spelling, Spells}
 use Rattle.hg_life.specs.Reading.{read_event}
-use Rattle.hg_life.specs.Verdict.{row_limit, verdict, row_verdict, made_row}
+use Rattle.hg_life.specs.Verdict.{verdict, row_verdict, made_row}
 use Rattle.hg_model.specs.Shares.{Share, Speaks}
 use Rattle.hg_history.specs.Adding.{add_marks}
 use Rattle.hg_history.specs.News.{FindsNews}
@@ -23,6 +23,7 @@ use Rattle.hg_life.specs.History.Change.{Took, Made, Marked}
 use Rattle.hg_life.specs.NodeView.{NodeView, with_changes, node_rows, log, log_from, history_of, IsNode}
 use Rattle.hg_life.specs.Calls.{put_answer, put_changes, make_answer, make_changes, make_body, make_draft, publish_changes, settle_changes, IsSettled}
 use Rattle.hg_life.specs.Signing.{Accepts}
+use Rattle.hg_life.specs.Terms.{Terms, row_limit}
 use Rattle.hg_model.specs.Orders.{IsPrefix, HasNameSizes, AreFame}
 use Rattle.hg_model.specs.Chains.{IsChain}
 
@@ -32,11 +33,11 @@ pub record IsEvent (accepts : Accepts) (row : Row) : Type 0 where
   pub signed : IsTrue (accepts row.creator (body_of row) row.sig)
 
 -- a graph of signed events with names of 48 bytes, not more than a node takes, in which the own member's rows are one chain
-pub record IsNodeGraph (accepts : Accepts) (n : Stakes) (own : ℕ) (G : List Row) : Type 0 where
+pub record IsNodeGraph (terms : Terms) (n : Stakes) (own : ℕ) (G : List Row) : Type 0 where
   pub graph : IsGraph n G
-  pub events : (x : ℕ) (row : Row) → slice_get G x ≡ Some row → IsEvent accepts row
+  pub events : (x : ℕ) (row : Row) → slice_get G x ≡ Some row → IsEvent terms.accepts row
   pub sizes : HasNameSizes 48 G
-  pub few : length G ≤ row_limit
+  pub few : length G ≤ terms.limit
   pub own_chain : IsChain own G
 
 -- a row came
@@ -47,11 +48,11 @@ IsRow (Marked len share) = ⊥
 
 -- after each history the rows are such a graph
 abbrev pub RowsAreAGraph : Type 0
-RowsAreAGraph = (accepts : Accepts) (n : Stakes) (c own : ℕ) (h : List Change) → 2 < c → IsHistory accepts n c own h → IsNodeGraph accepts n own (replay n c h).rows
+RowsAreAGraph = (terms : Terms) (n : Stakes) (c own : ℕ) (h : List Change) → 2 < c → IsHistory terms n c own h → IsNodeGraph terms n own (replay n c h).rows
 
 -- and the links, made as the rows came, are those of the rows
 abbrev pub LinksAreThoseOfTheRows : Type 0
-LinksAreThoseOfTheRows = (accepts : Accepts) (n : Stakes) (c own : ℕ) (h : List Change) → 2 < c → IsHistory accepts n c own h → (replay n c h).links ≡ links (replay n c h).rows
+LinksAreThoseOfTheRows = (terms : Terms) (n : Stakes) (c own : ℕ) (h : List Change) → 2 < c → IsHistory terms n c own h → (replay n c h).links ≡ links (replay n c h).rows
 
 -- the history has the change
 abbrev pub HasChange : List Change → Change → Type 0
@@ -59,7 +60,7 @@ HasChange h e = (i : ℕ) × (slice_get h i ≡ Some e)
 
 -- the rows by the own member are those that were made, and the rows by others those that were taken
 abbrev pub RowsCameByChanges : Type 0
-RowsCameByChanges = (accepts : Accepts) (n : Stakes) (c own : ℕ) (h : List Change) → IsHistory accepts n c own h → (x : ℕ) (row : Row) → slice_get (replay n c h).rows x ≡ Some row →
+RowsCameByChanges = (terms : Terms) (n : Stakes) (c own : ℕ) (h : List Change) → IsHistory terms n c own h → (x : ℕ) (row : Row) → slice_get (replay n c h).rows x ≡ Some row →
     (row.creator ≡ own → HasChange h (Made row)) × (row.creator ≢ own → HasChange h (Took row))
 
 -- a row that came stands among the rows
@@ -68,7 +69,7 @@ ChangesLeftRows = (n : Stakes) (c : ℕ) (h : List Change) (row : Row) → HasCh
 
 -- the verdict on a row with the sizes and the name of an event is that on its bytes
 abbrev pub VerdictsAreOfBytes : Type 0
-VerdictsAreOfBytes = (accepts : Accepts) (n : Stakes) (own : ℕ) (G : List Row) (bytes : List ℕ) (row : Row) → Spells bytes row → verdict accepts n own G bytes ≡ row_verdict accepts n own G row
+VerdictsAreOfBytes = (terms : Terms) (n : Stakes) (own : ℕ) (G : List Row) (bytes : List ℕ) (row : Row) → Spells bytes row → verdict terms n own G bytes ≡ row_verdict terms n own G row
 
 -- there is a link and a place for a mark for each row
 abbrev pub ListsAreEven : Type 0
@@ -76,7 +77,7 @@ ListsAreEven = (n : Stakes) (c : ℕ) (h : List Change) → (length (replay n c 
 
 -- each mark is the fame of the graph now
 abbrev pub MarksAreFame : Type 0
-MarksAreFame = (accepts : Accepts) (n : Stakes) (c own : ℕ) (h : List Change) → 2 < c → IsHistory accepts n c own h → AreFame n c (replay n c h).rows (replay n c h).marks
+MarksAreFame = (terms : Terms) (n : Stakes) (c own : ℕ) (h : List Change) → 2 < c → IsHistory terms n c own h → AreFame n c (replay n c h).rows (replay n c h).marks
 
 -- at a later moment of a history the rows of an earlier one are the first rows, with the same links
 abbrev pub RowsGrow : Type 0
@@ -91,12 +92,12 @@ MarksStay = (n : Stakes) (c : ℕ) (a b : List Change) (x : ℕ) (v : Bool) → 
 
 -- a closed round stays closed
 abbrev pub ClosedStays : Type 0
-ClosedStays = (accepts : Accepts) (n : Stakes) (c own : ℕ) (a b : List Change) → 2 < c → IsHistory accepts n c own (a ++ b) → (r : ℕ) →
+ClosedStays = (terms : Terms) (n : Stakes) (c own : ℕ) (a b : List Change) → 2 < c → IsHistory terms n c own (a ++ b) → (r : ℕ) →
     IsTrue (is_closed n (replay n c a).links (replay n c a).marks r) → IsTrue (is_closed n (replay n c (a ++ b)).links (replay n c (a ++ b)).marks r)
 
 -- a moment of a history is a history
 abbrev pub MomentsAreHistories : Type 0
-MomentsAreHistories = (accepts : Accepts) (n : Stakes) (c own : ℕ) (a b : List Change) → IsHistory accepts n c own (a ++ b) → IsHistory accepts n c own a
+MomentsAreHistories = (terms : Terms) (n : Stakes) (c own : ℕ) (a b : List Change) → IsHistory terms n c own (a ++ b) → IsHistory terms n c own a
 
 -- to publish fame leaves the rows and their links
 abbrev pub MarkingLeavesRows : Type 0
@@ -124,17 +125,17 @@ NewsLasts = (n : Stakes) (c : ℕ) (a b : List Change) (len : ℕ) (share : Shar
 
 -- of two moments of a history the order kept at the earlier is a prefix of that kept at the later
 abbrev pub KeptOrderGrows : Type 0
-KeptOrderGrows = (accepts : Accepts) (n : Stakes) (c own : ℕ) (a b : List Change) → 2 < c → IsHistory accepts n c own (a ++ b) →
+KeptOrderGrows = (terms : Terms) (n : Stakes) (c own : ℕ) (a b : List Change) → 2 < c → IsHistory terms n c own (a ++ b) →
     IsPrefix (kept n (replay n c a)) (kept n (replay n c (a ++ b)))
 
 -- so by names
 abbrev pub NamedOrderGrows : Type 0
-NamedOrderGrows = (accepts : Accepts) (n : Stakes) (c own : ℕ) (a b : List Change) → 2 < c → IsHistory accepts n c own (a ++ b) →
+NamedOrderGrows = (terms : Terms) (n : Stakes) (c own : ℕ) (a b : List Change) → 2 < c → IsHistory terms n c own (a ++ b) →
     IsPrefix (kept_by_names n (replay n c a)) (kept_by_names n (replay n c (a ++ b)))
 
 -- the kept order is a prefix of the order of the graph with its own fame
 abbrev pub KeptIsOfTheGraph : Type 0
-KeptIsOfTheGraph = (accepts : Accepts) (n : Stakes) (c own : ℕ) (h : List Change) → 2 < c → IsHistory accepts n c own h →
+KeptIsOfTheGraph = (terms : Terms) (n : Stakes) (c own : ℕ) (h : List Change) → 2 < c → IsHistory terms n c own h →
     IsPrefix (kept n (replay n c h)) (order_of n c (replay n c h).rows)
 
 -- the first k of m shares of the first `len` rows, published one after the other
@@ -144,7 +145,7 @@ shares_published len m (suc k) = shares_published len m k ++ Marked len (record 
 
 -- all shares of the whole graph have all its fame
 abbrev pub SharesAreAll : Type 0
-SharesAreAll = (accepts : Accepts) (n : Stakes) (c own : ℕ) (h : List Change) → 2 < c → IsHistory accepts n c own h → (m : ℕ) → 0 < m →
+SharesAreAll = (terms : Terms) (n : Stakes) (c own : ℕ) (h : List Change) → 2 < c → IsHistory terms n c own h → (m : ℕ) → 0 < m →
     let G = (replay n c h).rows in
     let t = replay n c (h ++ shares_published (length G) m m) in
     (t.rows ≡ G) × (t.marks ≡ fame_marks n c (links G) (coin_at G))
@@ -170,17 +171,17 @@ FirstRowsAreAGraph = (n : Stakes) (len : ℕ) (G : List Row) → IsGraph n G →
 
 -- the kept order is that of the closed rounds, one after the other
 abbrev pub OrderByRounds : Type 0
-OrderByRounds = (accepts : Accepts) (n : Stakes) (c own : ℕ) (h : List Change) → 2 < c → IsHistory accepts n c own h →
+OrderByRounds = (terms : Terms) (n : Stakes) (c own : ℕ) (h : List Change) → 2 < c → IsHistory terms n c own h →
     let s = replay n c h in kept n s ≡ kept_up_to n s (last_closed n s.links s.marks)
 
 -- and what a closed round has received stays
 abbrev pub RoundsStay : Type 0
-RoundsStay = (accepts : Accepts) (n : Stakes) (c own : ℕ) (a b : List Change) → 2 < c → IsHistory accepts n c own (a ++ b) → (r : ℕ) →
+RoundsStay = (terms : Terms) (n : Stakes) (c own : ℕ) (a b : List Change) → 2 < c → IsHistory terms n c own (a ++ b) → (r : ℕ) →
     IsTrue (is_closed n (replay n c a).links (replay n c a).marks r) → kept_in n (replay n c (a ++ b)) r ≡ kept_in n (replay n c a) r
 
 -- a row that comes closes no round, and so leaves the kept order
 abbrev pub RowsLeaveTheOrder : Type 0
-RowsLeaveTheOrder = (accepts : Accepts) (n : Stakes) (c own : ℕ) (h : List Change) (e : Change) → 2 < c → IsHistory accepts n c own (h ++ e ∷ []) → IsRow e →
+RowsLeaveTheOrder = (terms : Terms) (n : Stakes) (c own : ℕ) (h : List Change) (e : Change) → 2 < c → IsHistory terms n c own (h ++ e ∷ []) → IsRow e →
     let s = replay n c h in let t = replay n c (h ++ e ∷ []) in
     (last_closed n t.links t.marks ≡ last_closed n s.links s.marks) × (kept n t ≡ kept n s)
 

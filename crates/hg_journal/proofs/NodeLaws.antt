@@ -9,7 +9,7 @@ use Rattle.hg_model.specs.Shares.{Share}
 use Rattle.hg_life.specs.declared.answers.PutAnswer.TheVariants.{Accepted}
 use Rattle.hg_life.specs.Calls.{put_answer, put_changes, publish_changes}
 use Rattle.hg_life.specs.History.{Change}
-use Rattle.hg_life.specs.NodeView.{NodeView, IsNode, node_rows, with_changes}
+use Rattle.hg_life.specs.NodeView.{NodeView, IsNode, node_rows, with_changes, terms_of}
 use Rattle.hg_life.specs.Signing.{Accepts}
 use Rattle.hg_event.proofs.Reading.{AreBytes}
 use Rattle.hg_event.proofs.Spells.{read_event-Spells}
@@ -23,11 +23,14 @@ use Rattle.hg_journal.specs.Journal.{change_in, marked_body, marked_in, next_nod
 
 -- ---- how much there may be
 
-pub rows_few : {K : Type 0} (accepts : K → Accepts) (v : NodeView K) → IsNode accepts v → length (node_rows v) ≤ 16384
-rows_few accepts v node = (node_graph (accepts v.start.keys) v.start.members v.start.coin v.start.own v.history node.coin node.history).few
+pub rows_few : {K : Type 0} (accepts : K → Accepts) (v : NodeView K) → IsNode accepts v → length (node_rows v) ≤ 1048576
+rows_few accepts v node =
+    let few = (node_graph (terms_of accepts v.start) v.start.members v.start.coin v.start.own v.history node.coin node.history).few in
+    let limit = node.limit in
+    omega arith
 
-pub changes_few : {K : Type 0} (accepts : K → Accepts) (v : NodeView K) → IsNode accepts v → length v.history ≤ 32768
-changes_few accepts v node = omega (arith, changes_are_few (accepts v.start.keys) v.start.members v.start.coin v.start.own v.history node.history, rows_few accepts v node)
+pub changes_few : {K : Type 0} (accepts : K → Accepts) (v : NodeView K) → IsNode accepts v → length v.history ≤ 2097152
+changes_few accepts v node = omega (arith, changes_are_few (terms_of accepts v.start) v.start.members v.start.coin v.start.own v.history node.history, rows_few accepts v node)
 
 pub accepted_short : {K : Type 0} (accepts : K → Accepts) (v : NodeView K) (bytes : List ℕ) (place : ℕ) → AreBytes bytes → put_answer accepts v bytes ≡ Accepted place → length bytes ≤ 1345
 accepted_short {K} accepts v bytes place fit accepted =

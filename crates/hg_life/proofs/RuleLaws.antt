@@ -11,7 +11,7 @@ use Rattle.hg_model.specs.Links.{has_few_others, parent_names, place_of, ParentN
 use Rattle.hg_model.specs.Graph.{HasDistinctNames}
 use Rattle.hg_model.specs.Fits.{AreHeld, ParentsFit, Fits}
 use Rattle.hg_life.specs.Spelling.{AreNames, HasSpelling, payload_limit}
-use Rattle.hg_life.specs.Verdict.{row_limit, first_missing, first_by, member_rule, name_rule, signature_rule, impostor_rule, missing_rule, creator_rule, arrival_rule, forkers_rule, full_rule, last_name, parents_on, first_rule, other_rule, payload_rule, draft_rule, collision_rule, room_rule}
+use Rattle.hg_life.specs.Verdict.{first_missing, first_by, member_rule, name_rule, signature_rule, impostor_rule, missing_rule, creator_rule, arrival_rule, forkers_rule, full_rule, last_name, parents_on, first_rule, other_rule, payload_rule, draft_rule, collision_rule, room_rule}
 use Rattle.hg_model.specs.Held.{is_held}
 use Rattle.hg_model.specs.Graph.{creator_at}
 use Rattle.hg_life.proofs.LastLaws.{last_is_own}
@@ -120,9 +120,9 @@ arrives accepts n own G row has none =
     }
 
 -- a graph that is not full has room for one more
-pub has_room : (n : Stakes) (G : List Row) (row : Row) → option_or (forkers_rule n G row) (full_rule G) ≡ None → length G < row_limit
-has_room n G row none =
-    below_from_test row_limit (length G) (one_test (nat_le row_limit (length G)) _ (option_or_none (forkers_rule n G row) (full_rule G) none).1)
+pub has_room : (n : Stakes) (limit : ℕ) (G : List Row) (row : Row) → option_or (forkers_rule n G row) (full_rule limit G) ≡ None → length G < limit
+has_room n limit G row none =
+    below_from_test limit (length G) (one_test (nat_le limit (length G)) _ (option_or_none (forkers_rule n G row) (full_rule limit G) none).1)
 
 -- the parents of an event that may be made
 made_parents : (G : List Row) (m : ℕ) (last : Option (List ℕ)) (others : List (List ℕ)) → HasDistinctNames G → last_name m G ≡ last → first_rule last others ≡ None → other_rule m G others ≡ None →
@@ -154,14 +154,14 @@ drafted n own G others payload distinct none =
     }
 
 -- what holds of a made row against which no rule speaks
-pub record IsAdmitted (G : List Row) (row : Row) : Type 0 where
+pub record IsAdmitted (limit : ℕ) (G : List Row) (row : Row) : Type 0 where
   pub new_name : length G ≤ place_of G row.name
-  pub room : length G < row_limit
+  pub room : length G < limit
 
-pub admitted : (G : List Row) (row : Row) → option_or (collision_rule G row) (room_rule G) ≡ None → IsAdmitted G row
-admitted G row none =
-    let a = option_or_none (collision_rule G row) (room_rule G) none in
+pub admitted : (limit : ℕ) (G : List Row) (row : Row) → option_or (collision_rule G row) (room_rule limit G) ≡ None → IsAdmitted limit G row
+admitted limit G row none =
+    let a = option_or_none (collision_rule G row) (room_rule limit G) none in
     record {
       new_name = not_below (place_of G row.name) (length G) (one_test (is_held G row.name) _ a.0);
-      room = below_from_test row_limit (length G) (one_test (nat_le row_limit (length G)) _ a.1);
+      room = below_from_test limit (length G) (one_test (nat_le limit (length G)) _ a.1);
     }

@@ -15,22 +15,23 @@ use Rattle.hg_model.specs.Ancestry.{is_self_ancestor}
 use Rattle.hg_model.specs.Forks.{is_fork, has_fork, forking}
 use Rattle.hg_life.specs.Spelling.{form_bytes, parent_bytes}
 use Rattle.hg_life.specs.Reading.{read_event, form_field, form_of, parents_field, number_field, bytes_field}
+use Rattle.hg_life.specs.Terms.{row_limit}
 use Rattle.hg_life.specs.Verdict.{row_verdict}
 use Rattle.hg_life.specs.Pay.{pay_bytes, read_pay, paid, book_of}
 use Rattle.hg_model.proofs.Worked.{members, first, made, forked_members}
 
 -- a second event on the third member's first would be a second fork, and two of four are not below a third
-second_forker : row_verdict (λ m body sig. true) (members 4) 0 forked_members (made 2 3 1 12) ≡ Refused (fault.TooManyForkers 2)
+second_forker : row_verdict (record { accepts = λ m body sig. true; limit = row_limit }) (members 4) 0 forked_members (made 2 3 1 12) ≡ Refused (fault.TooManyForkers 2)
 unfolding forking total has_fork is_fork is_self_ancestor weight_below some_below reaches by_place values_below self_parent parents creator links
 second_forker = refl
 
 -- of three members the first has 3 of 5 and makes a second event without parents: that is one forker, with too much stake
-heavy_forker : row_verdict (λ m body sig. true) (3 ∷ 1 ∷ 1 ∷ []) 1 (first 0 1 ∷ []) (first 0 2) ≡ Refused (fault.TooManyForkers 3)
+heavy_forker : row_verdict (record { accepts = λ m body sig. true; limit = row_limit }) (3 ∷ 1 ∷ 1 ∷ []) 1 (first 0 1 ∷ []) (first 0 2) ≡ Refused (fault.TooManyForkers 3)
 unfolding forking total has_fork is_fork is_self_ancestor weight_below some_below reaches by_place values_below self_parent parents creator links
 heavy_forker = refl
 
 -- the last of four, with 2 of 7, may
-light_forker : row_verdict (λ m body sig. true) (2 ∷ 1 ∷ 2 ∷ 2 ∷ []) 1 (first 3 1 ∷ []) (first 3 2) ≡ Accepted 1
+light_forker : row_verdict (record { accepts = λ m body sig. true; limit = row_limit }) (2 ∷ 1 ∷ 2 ∷ 2 ∷ []) 1 (first 3 1 ∷ []) (first 3 2) ≡ Accepted 1
 unfolding forking total has_fork is_fork is_self_ancestor weight_below some_below reaches by_place values_below self_parent parents creator links
 light_forker = refl
 

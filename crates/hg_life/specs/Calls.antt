@@ -13,7 +13,7 @@ use Rattle.hg_life.specs.declared.answers.MakeFault.{MakeFault}
 use Rattle.hg_model.specs.Shares.{Share, whole}
 use Rattle.hg_life.specs.History.{Change, news}
 use Rattle.hg_life.specs.History.Change.{Took, Made, Marked}
-use Rattle.hg_life.specs.NodeView.{NodeView, with_changes, node_state, node_rows, node_marks, kept_of}
+use Rattle.hg_life.specs.NodeView.{NodeView, terms_of, with_changes, node_state, node_rows, node_marks, kept_of}
 use Rattle.hg_life.specs.Signing.{Accepts}
 use Rattle.hg_model.specs.Links.{links}
 use Rattle.hg_model.specs.Fame.{fame_marks}
@@ -21,7 +21,7 @@ use Rattle.hg_model.specs.Order.{coin_at, order_of}
 
 -- what comes of bytes that are put to the node
 unfoldable pub put_answer : {K : Type 0} → (K → Accepts) → NodeView K → List ℕ → PutAnswer
-put_answer accepts v bytes = verdict (accepts v.start.keys) v.start.members v.start.own (node_rows v) bytes
+put_answer accepts v bytes = verdict (terms_of accepts v.start) v.start.members v.start.own (node_rows v) bytes
 
 abbrev pub taken_by : PutAnswer → Row → List Change
 taken_by (Accepted p) row = Took row ∷ []
@@ -31,7 +31,7 @@ taken_by (Refused f) row = []
 -- by what was read of the bytes
 abbrev pub taken_from : {K : Type 0} → (K → Accepts) → NodeView K → Result Row ByteFault → List Change
 taken_from accepts v (Err e) = []
-taken_from accepts v (Ok row) = taken_by (row_verdict (accepts v.start.keys) v.start.members v.start.own (node_rows v) row) row
+taken_from accepts v (Ok row) = taken_by (row_verdict (terms_of accepts v.start) v.start.members v.start.own (node_rows v) row) row
 
 -- the changes that they add: the row that they spell, where they are accepted
 unfoldable pub put_changes : {K : Type 0} → (K → Accepts) → NodeView K → List ℕ → List Change
@@ -39,7 +39,7 @@ put_changes accepts v bytes = taken_from accepts v (read_event bytes)
 
 -- what comes of making an event under this signature
 unfoldable pub make_answer : {K : Type 0} → NodeView K → List (List ℕ) → ℕ → List ℕ → List ℕ → MakeAnswer
-make_answer v others time payload sig = making v.start.own (node_rows v) others time payload sig
+make_answer v others time payload sig = making v.start.limit v.start.own (node_rows v) others time payload sig
 
 abbrev pub made_by : MakeAnswer → Row → List Change
 made_by (answer.Made p) row = Made row ∷ []

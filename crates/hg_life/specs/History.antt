@@ -15,7 +15,7 @@ use Rattle.hg_model.specs.Fame.{Marks, mark_at, is_closed}
 use Rattle.hg_life.specs.Spelling.{body_of, spelling, Spells}
 use Rattle.hg_life.specs.Verdict.{row_verdict, made_row, making}
 use Rattle.hg_model.specs.Shares.{Share, early_fame}
-use Rattle.hg_life.specs.Signing.{Accepts}
+use Rattle.hg_life.specs.Terms.{Terms}
 
 -- a row was taken, or made, or the witnesses of a share were marked with the fame that the first so many rows decide
 pub data Change : Type 0 where
@@ -78,21 +78,21 @@ unfoldable pub replay : Stakes → ℕ → List Change → State
 replay n c h = fold (step n c) empty h
 
 -- the row has the sizes and the name of an event, and the node of the member `own` with the rows G accepts it
-pub record IsTaken (accepts : Accepts) (n : Stakes) (own : ℕ) (G : List Row) (row : Row) : Type 0 where
+pub record IsTaken (terms : Terms) (n : Stakes) (own : ℕ) (G : List Row) (row : Row) : Type 0 where
   pub spelled : Spells (spelling row) row
-  pub accepted : row_verdict accepts n own G row ≡ Accepted (length G)
+  pub accepted : row_verdict terms n own G row ≡ Accepted (length G)
 
 -- the row has the sizes and the name of an event, and is what the node makes for some arguments, under a signature that
 -- is accepted; its self-parent is then the last row that the node made
-pub record IsMade (accepts : Accepts) (own : ℕ) (G : List Row) (row : Row) : Type 0 where
+pub record IsMade (terms : Terms) (own : ℕ) (G : List Row) (row : Row) : Type 0 where
   pub others : List (List ℕ)
   pub time : ℕ
   pub payload : List ℕ
   pub sig : List ℕ
   pub fields : row ≡ made_row own G others time payload sig
   pub spelled : Spells (spelling row) row
-  pub signed : accepts own (body_of row) sig ≡ true
-  pub made : making own G others time payload sig ≡ make_answer.Made (length G)
+  pub signed : terms.accepts own (body_of row) sig ≡ true
+  pub made : making terms.limit own G others time payload sig ≡ make_answer.Made (length G)
 
 -- there are so many rows, and they decide some witness of the share that has no mark
 pub record MarksSome (n : Stakes) (c : ℕ) (s : State) (len : ℕ) (share : Share) : Type 0 where
@@ -100,19 +100,19 @@ pub record MarksSome (n : Stakes) (c : ℕ) (s : State) (len : ℕ) (share : Sha
   pub some : 0 < news n c s len share
 
 -- the change may come in this state
-abbrev pub IsStep : Accepts → Stakes → ℕ → ℕ → State → Change → Type 0
-IsStep accepts n c own s (Took row) = IsTaken accepts n own s.rows row
-IsStep accepts n c own s (Made row) = IsMade accepts own s.rows row
-IsStep accepts n c own s (Marked len share) = MarksSome n c s len share
+abbrev pub IsStep : Terms → Stakes → ℕ → ℕ → State → Change → Type 0
+IsStep terms n c own s (Took row) = IsTaken terms n own s.rows row
+IsStep terms n c own s (Made row) = IsMade terms own s.rows row
+IsStep terms n c own s (Marked len share) = MarksSome n c s len share
 
 -- so may these, one after the other
-abbrev pub AreSteps : Accepts → Stakes → ℕ → ℕ → State → List Change → Type 0
-AreSteps accepts n c own s [] = Unit {0}
-AreSteps accepts n c own s (e ∷ h) = IsStep accepts n c own s e × AreSteps accepts n c own (step n c s e) h
+abbrev pub AreSteps : Terms → Stakes → ℕ → ℕ → State → List Change → Type 0
+AreSteps terms n c own s [] = Unit {0}
+AreSteps terms n c own s (e ∷ h) = IsStep terms n c own s e × AreSteps terms n c own (step n c s e) h
 
 -- a history of the node of the member `own` among these, who have some stake, with coin period c; a moment of it is any
 -- prefix
-pub record IsHistory (accepts : Accepts) (n : Stakes) (c own : ℕ) (h : List Change) : Type 0 where
+pub record IsHistory (terms : Terms) (n : Stakes) (c own : ℕ) (h : List Change) : Type 0 where
   pub member : own < member_count n
   pub stake : 0 < total n
-  pub steps : AreSteps accepts n c own empty h
+  pub steps : AreSteps terms n c own empty h

@@ -4,6 +4,7 @@ pub mod Spelling
 pub mod Results
 pub mod Reading
 pub mod Signing
+pub mod Terms
 pub mod Verdict
 pub mod Gossip
 pub mod History

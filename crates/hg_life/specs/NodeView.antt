@@ -14,25 +14,36 @@ use Rattle.hg_life.specs.Pay.{Book, book_of}
 use Rattle.hg_life.specs.History.{Change, State, replay, IsHistory}
 use Rattle.hg_life.specs.History.Change.{Took, Made, Marked}
 use Rattle.hg_life.specs.Signing.{Accepts}
+use Rattle.hg_life.specs.Terms.{Terms, row_limit}
 
 -- what a node begins with and never changes: its own member, the members' stakes, the coin period, the starting
--- balances, and what it signs with and checks signatures by
+-- balances, how many rows it holds at most, and what it signs with and checks signatures by
 pub record Start (K : Type 0) : Type 0 where
   pub own : ℕ
   pub members : Stakes
   pub coin : ℕ
   pub balances : List ℕ
+  pub limit : ℕ
   pub keys : K
 
--- what the node of a member begins with among these members, with these keys
-abbrev pub start_of : {K : Type 0} → MemberList → ℕ → K → Start K
-start_of members own keys = record {
+-- what the node of a member begins with among these members, with these keys and this limit
+abbrev pub start_within : {K : Type 0} → MemberList → ℕ → K → ℕ → Start K
+start_within members own keys limit = record {
   own = own;
   members = stakes_of members;
   coin = members.coin;
   balances = balances_of members;
+  limit = limit;
   keys = keys;
 }
+
+-- the same with the greatest limit
+abbrev pub start_of : {K : Type 0} → MemberList → ℕ → K → Start K
+start_of members own keys = start_within members own keys row_limit
+
+-- on what terms it takes and makes rows, where keys accept these signatures
+abbrev pub terms_of : {K : Type 0} → (K → Accepts) → Start K → Terms
+terms_of accepts start = record { accepts = accepts start.keys; limit = start.limit }
 
 -- a node: what it began with, and its history
 pub record NodeView (K : Type 0) : Type 0 where
@@ -94,4 +105,5 @@ pub record IsNode {K : Type 0} (accepts : K → Accepts) (v : NodeView K) : Type
   pub few_members : member_count v.start.members ≤ 128
   pub coin : 2 < v.start.coin
   pub balances : length v.start.balances ≡ member_count v.start.members
-  pub history : IsHistory (accepts v.start.keys) v.start.members v.start.coin v.start.own v.history
+  pub limit : v.start.limit ≤ row_limit
+  pub history : IsHistory (terms_of accepts v.start) v.start.members v.start.coin v.start.own v.history

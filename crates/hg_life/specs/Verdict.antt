@@ -22,10 +22,7 @@ use Rattle.hg_model.specs.Held.{is_held}
 use Rattle.hg_life.specs.Spelling.{body_of, body_bytes, spelling, payload_limit}
 use Rattle.hg_life.specs.Reading.{read_event}
 use Rattle.hg_life.specs.Signing.{Accepts}
-
--- the greatest number of rows of a node
-abbrev pub row_limit : ℕ
-row_limit = 16384
+use Rattle.hg_life.specs.Terms.{Terms}
 
 -- the row of this place has these bytes
 abbrev pub has_bytes : List Row → ℕ → List ℕ → Bool
@@ -81,8 +78,8 @@ forkers_answer all k = if nat_le all (3 * k) then Some (Refused (fault.TooManyFo
 abbrev pub forkers_rule : Stakes → List Row → Row → Option PutAnswer
 forkers_rule n G row = forkers_answer (total n) (forking_with n G row)
 
-abbrev pub full_rule : List Row → Option PutAnswer
-full_rule G = if nat_le row_limit (length G) then Some (Refused (fault.Full row_limit)) else None
+abbrev pub full_rule : ℕ → List Row → Option PutAnswer
+full_rule limit G = if nat_le limit (length G) then Some (Refused (fault.Full limit)) else None
 
 -- what the rules on the row and on its parents answer, if one does: all but those on forking stake and on room
 abbrev pub arrival_rule : Accepts → Stakes → ℕ → List Row → Row → Option PutAnswer
@@ -91,18 +88,18 @@ arrival_rule accepts n own G row =
     (option_or (impostor_rule own row) (option_or (missing_rule G row.parents) (creator_rule G row.creator row.parents)))))
 
 -- what comes of a row that is put to the node of the member `own` with the rows G, among these members
-abbrev pub row_verdict : Accepts → Stakes → ℕ → List Row → Row → PutAnswer
-row_verdict accepts n own G row =
-    unwrap_or (option_or (arrival_rule accepts n own G row) (option_or (forkers_rule n G row) (full_rule G))) (Accepted (length G))
+abbrev pub row_verdict : Terms → Stakes → ℕ → List Row → Row → PutAnswer
+row_verdict terms n own G row =
+    unwrap_or (option_or (arrival_rule terms.accepts n own G row) (option_or (forkers_rule n G row) (full_rule terms.limit G))) (Accepted (length G))
 
 -- what comes of bytes by what was read of them: a fault of the bytes comes before all others
-abbrev pub verdict_of : Accepts → Stakes → ℕ → List Row → Result Row ByteFault → PutAnswer
-verdict_of accepts n own G (Err e) = Refused (fault.Bytes e)
-verdict_of accepts n own G (Ok row) = row_verdict accepts n own G row
+abbrev pub verdict_of : Terms → Stakes → ℕ → List Row → Result Row ByteFault → PutAnswer
+verdict_of terms n own G (Err e) = Refused (fault.Bytes e)
+verdict_of terms n own G (Ok row) = row_verdict terms n own G row
 
 -- what comes of bytes that are put to the node
-abbrev pub verdict : Accepts → Stakes → ℕ → List Row → List ℕ → PutAnswer
-verdict accepts n own G bytes = verdict_of accepts n own G (read_event bytes)
+abbrev pub verdict : Terms → Stakes → ℕ → List Row → List ℕ → PutAnswer
+verdict terms n own G bytes = verdict_of terms n own G (read_event bytes)
 
 -- the rules of making
 
@@ -148,8 +145,8 @@ payload_rule payload = if nat_lt payload_limit (length payload) then Some (make_
 abbrev pub collision_rule : List Row → Row → Option MakeFault
 collision_rule G row = if is_held G row.name then Some (make_fault.Collision (place_of G row.name)) else None
 
-abbrev pub room_rule : List Row → Option MakeFault
-room_rule G = if nat_le row_limit (length G) then Some (make_fault.Full row_limit) else None
+abbrev pub room_rule : ℕ → List Row → Option MakeFault
+room_rule limit G = if nat_le limit (length G) then Some (make_fault.Full limit) else None
 
 -- what is wrong before the event is signed
 abbrev pub draft_rule : ℕ → List Row → List (List ℕ) → List ℕ → Option MakeFault
@@ -165,7 +162,7 @@ made_or None place = make_answer.Made place
 made_or (Some fault) place = make_answer.Refused fault
 
 -- what comes of making it
-abbrev pub making : ℕ → List Row → List (List ℕ) → ℕ → List ℕ → List ℕ → MakeAnswer
-making own G others time payload sig =
+abbrev pub making : ℕ → ℕ → List Row → List (List ℕ) → ℕ → List ℕ → List ℕ → MakeAnswer
+making limit own G others time payload sig =
     made_or (option_or (draft_rule own G others payload)
-    (option_or (collision_rule G (made_row own G others time payload sig)) (room_rule G))) (length G)
+    (option_or (collision_rule G (made_row own G others time payload sig)) (room_rule limit G))) (length G)

@@ -11,10 +11,10 @@ use Rattle.hg_life.specs.declared.answers.PutAnswer.{PutAnswer}
 use Rattle.hg_life.specs.declared.answers.PutAnswer.TheVariants.{Accepted, Refused}
 use Rattle.hg_model.specs.Graph.{IsGraph}
 use Rattle.hg_life.specs.Reading.{read_event}
-use Rattle.hg_life.specs.Verdict.{row_limit, member_rule, name_rule, signature_rule, forkers_rule, full_rule}
+use Rattle.hg_life.specs.Verdict.{member_rule, name_rule, signature_rule, forkers_rule, full_rule}
 use Rattle.hg_life.specs.History.{Change}
 use Rattle.hg_life.specs.History.Change.{Made}
-use Rattle.hg_life.specs.NodeView.{NodeView, with_changes, node_rows, IsNode}
+use Rattle.hg_life.specs.NodeView.{NodeView, with_changes, node_rows, IsNode, terms_of}
 use Rattle.hg_life.specs.Signing.{Accepts}
 use Rattle.hg_life.proofs.RuleLaws.{option_or_none, has_room}
 use Rattle.hg_event.proofs.Reading.{AreBytes}
@@ -33,7 +33,7 @@ pub record IsRestoring {K : Type 0} (accepts : K → Accepts) (v w : NodeView K)
   pub grown : w ≡ with_changes v (restore_changes accepts v bytes)
   pub recorded : IsRecorded accepts w (chronicle_with r row (entry.Made (length r.graph.rows)))
   pub graph : IsGraph r.graph.members (r.graph.rows ++ row ∷ [])
-  pub limit : length r.graph.rows < row_limit
+  pub limit : length r.graph.rows < r.limit
 
 -- what a restoring left recorded, and answered
 pub record IsRestored {K E : Type 0} (accepts : K → Accepts) (v w : NodeView K) (s : ChronicleView) (bytes : List ℕ) (result : Result PutAnswer E) : Type 0 where
@@ -47,7 +47,7 @@ pub restore_faulty : {K : Type 0} (accepts : K → Accepts) (v : NodeView K) (by
     (Refused (fault.Bytes e) ≡ restore_answer accepts v bytes) × (v ≡ with_changes v (restore_changes accepts v bytes))
 unfolding restore_answer restore_changes
 restore_faulty accepts v bytes e read = (
-  sym (ap (restore_verdict_of (accepts v.start.keys) v.start.members v.start.own (node_rows v)) read),
+  sym (ap (restore_verdict_of (terms_of accepts v.start) v.start.members v.start.own (node_rows v)) read),
   sym (with_none v (restore_changes accepts v bytes) (ap (restored_from accepts v) read)),
 )
 
@@ -61,33 +61,33 @@ grouped None b c = refl
 grouped (Some x) b c = refl
 
 -- the rules in the order of the verdict
-pub back_in_order : (accepts : Accepts) (r : ChronicleView) (row : Row) → back_rules accepts r row ≡ restore_rules accepts r.graph.members r.own r.graph.rows row
+pub back_in_order : (accepts : Accepts) (r : ChronicleView) (row : Row) → back_rules accepts r row ≡ restore_rules (record { accepts = accepts; limit = r.limit }) r.graph.members r.own r.graph.rows row
 back_in_order accepts r row =
-    grouped (arrival_by accepts (impostor_in r.own r.graph.rows row) r.graph row) (forkers_rule r.graph.members r.graph.rows row) (full_rule r.graph.rows)
+    grouped (arrival_by accepts (impostor_in r.own r.graph.rows row) r.graph row) (forkers_rule r.graph.members r.graph.rows row) (full_rule r.limit r.graph.rows)
     ∙ ap (λ (rule : Option PutAnswer). option_or
     (option_or (member_rule r.graph.members row) (option_or (name_rule r.graph.rows row) (option_or (signature_rule accepts row) (option_or rule (parents_rule r.graph.rows row)))))
-    (option_or (forkers_rule r.graph.members r.graph.rows row) (full_rule r.graph.rows))) (impostor_is (is_next_own r.own r.graph.rows row) row)
+    (option_or (forkers_rule r.graph.members r.graph.rows row) (full_rule r.limit r.graph.rows))) (impostor_is (is_next_own r.own r.graph.rows row) row)
 
 module _ {K : Type 0} (accepts : K → Accepts) (keys : K) (r : ChronicleView) (bytes : List ℕ) (is : IsRecorded accepts (node_view keys r) r) where
   abbrev rules : Row → Option PutAnswer
-  rules row = restore_rules (accepts keys) r.graph.members r.own r.graph.rows row
+  rules row = restore_rules (terms_of accepts (node_view keys r).start) r.graph.members r.own r.graph.rows row
 
   module _ (row : Row) (read : read_event bytes ≡ Ok row) where
-    verdict_by : restore_verdict (accepts keys) r.graph.members r.own (node_rows (node_view keys r)) row ≡ unwrap_or (rules row) (Accepted (length r.graph.rows))
-    verdict_by = ap (λ (G : List Row). restore_verdict (accepts keys) r.graph.members r.own G row) is.rows
+    verdict_by : restore_verdict (terms_of accepts (node_view keys r).start) r.graph.members r.own (node_rows (node_view keys r)) row ≡ unwrap_or (rules row) (Accepted (length r.graph.rows))
+    verdict_by = ap (λ (G : List Row). restore_verdict (terms_of accepts (node_view keys r).start) r.graph.members r.own G row) is.rows
 
     answer_by : restore_answer accepts (node_view keys r) bytes ≡ unwrap_or (rules row) (Accepted (length r.graph.rows))
     unfolding restore_answer
-    answer_by = ap (restore_verdict_of (accepts keys) r.graph.members r.own (node_rows (node_view keys r))) read ∙ verdict_by
+    answer_by = ap (restore_verdict_of (terms_of accepts (node_view keys r).start) r.graph.members r.own (node_rows (node_view keys r))) read ∙ verdict_by
 
     -- against which a rule speaks
     pub restore_refused : (a : PutAnswer) → Some a ≡ rules row →
         (a ≡ restore_answer accepts (node_view keys r) bytes) × (node_view keys r ≡ with_changes (node_view keys r) (restore_changes accepts (node_view keys r) bytes))
     unfolding restore_changes
     restore_refused a speaks =
-        let here : restore_verdict (accepts keys) r.graph.members r.own (node_rows (node_view keys r)) row ≡ a = verdict_by ∙ ap (λ (o : Option PutAnswer). unwrap_or o (Accepted (length r.graph.rows))) (sym speaks) in
+        let here : restore_verdict (terms_of accepts (node_view keys r).start) r.graph.members r.own (node_rows (node_view keys r)) row ≡ a = verdict_by ∙ ap (λ (o : Option PutAnswer). unwrap_or o (Accepted (length r.graph.rows))) (sym speaks) in
         let none : restore_changes accepts (node_view keys r) bytes ≡ [] =
-        ap (restored_from accepts (node_view keys r)) read ∙ (ap (λ (b : PutAnswer). restored_by b row) here ∙ restored_other (accepts keys) r.graph.members r.own r.graph.rows row a (sym speaks)) in (
+        ap (restored_from accepts (node_view keys r)) read ∙ (ap (λ (b : PutAnswer). restored_by b row) here ∙ restored_other (terms_of accepts (node_view keys r).start) r.graph.members r.own r.graph.rows row a (sym speaks)) in (
           sym here ∙ (verdict_by ∙ sym answer_by),
           sym (with_none (node_view keys r) (restore_changes accepts (node_view keys r) bytes) none),
         )
@@ -97,18 +97,18 @@ module _ {K : Type 0} (accepts : K → Accepts) (keys : K) (r : ChronicleView) (
     unfolding restore_changes
     restore_taken fit silent =
         let answer : restore_answer accepts (node_view keys r) bytes ≡ Accepted (length r.graph.rows) = answer_by ∙ ap (λ (o : Option PutAnswer). unwrap_or o (Accepted (length r.graph.rows))) (sym silent) in
-        let by_row : restore_verdict (accepts keys) r.graph.members r.own (node_rows (node_view keys r)) row ≡ Accepted (length r.graph.rows) =
+        let by_row : restore_verdict (terms_of accepts (node_view keys r).start) r.graph.members r.own (node_rows (node_view keys r)) row ≡ Accepted (length r.graph.rows) =
         verdict_by ∙ ap (λ (o : Option PutAnswer). unwrap_or o (Accepted (length r.graph.rows))) (sym silent) in
         let events : restore_changes accepts (node_view keys r) bytes ≡ Made row ∷ [] = ap (restored_from accepts (node_view keys r)) read ∙ ap (λ (a : PutAnswer). restored_by a row) by_row in
         let node = subst (λ (es : List Change). IsNode accepts (with_changes (node_view keys r) es)) events (restores_leave_a_node K accepts (node_view keys r) bytes fit is.node) in
         let recorded = recorded_after accepts keys r (Made row) (entry.Made (length r.graph.rows)) refl is node in
-        let rest = (option_or_none _ (option_or (forkers_rule r.graph.members r.graph.rows row) (full_rule r.graph.rows)) (sym silent)).1 in
+        let rest = (option_or_none _ (option_or (forkers_rule r.graph.members r.graph.rows row) (full_rule r.limit r.graph.rows)) (sym silent)).1 in
         record {
           answer = answer;
           grown = sym (ap (with_changes (node_view keys r)) events ∙ shown_after accepts keys r (Made row) (entry.Made (length r.graph.rows)) refl is);
           recorded = recorded;
           graph = recorded_graph accepts keys (chronicle_with r row (entry.Made (length r.graph.rows))) recorded;
-          limit = has_room r.graph.members r.graph.rows row rest;
+          limit = has_room r.graph.members r.limit r.graph.rows row rest;
         }
 
     -- and what is left, whether there was memory for the row or not

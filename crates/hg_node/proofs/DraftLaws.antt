@@ -1,5 +1,5 @@
 -- What is wrong with an event before it is signed, by the places of its parents
-use Rattle.std.proofs.Common.{◌≡◌, ℕ, ◌+◌, ◌<◌, cond, not, List, [], ◌∷◌, length, drop, get_or, map, Option, Some, None, ap}
+use Rattle.std.proofs.Common.{◌≡◌, ℕ, ◌+◌, ◌<◌, cond, not, List, length, drop, get_or, map, Some, ap}
 use Rattle.std.specs.Prelude.{option_map}
 use Rattle.std.proofs.lemmas.List.{at_drop_more}
 use Rattle.hg_model.specs.declared.row.Row.{Row}

@@ -9,18 +9,18 @@ use Rattle.std.proofs.lemmas.List.{length_push, length-append}
 use Rattle.hg_model.specs.Stakes.{Stakes}
 use Rattle.hg_model.specs.Links.{ParentNames}
 use Rattle.hg_model.specs.Fame.{mark_at}
-use Rattle.hg_life.specs.Signing.{Accepts}
 use Rattle.hg_life.specs.Spelling.{AreNames, spelling, body_of, form_bytes, parent_bytes, payload_bytes}
 use Rattle.hg_life.specs.History.{Change, State, empty, with_row, with_marks, first_mark, step, replay, AreSteps}
 use Rattle.hg_life.specs.History.Change.{Took, Made, Marked}
+use Rattle.hg_life.specs.Terms.{Terms}
 use Rattle.hg_model.proofs.PlacesLaws.{count_below-le}
 use Rattle.hg_history.proofs.StateLaws.{IsEven, even_row, even_step, even_after}
 use Rattle.hg_node.specs.ChronicleView.{marked}
 use Rattle.hg_node.proofs.NewsLaws.{marked_push, marked_news}
 use Rattle.hg_node.specs.ReplayLaws.{ChangesAreFew, SpellingsAreShort}
 
-module _ (accepts : Accepts) (n : Stakes) (c own : ℕ) where
-  few_from : (s : State) (h : List Change) → IsEven s → AreSteps accepts n c own s h →
+module _ (terms : Terms) (n : Stakes) (c own : ℕ) where
+  few_from : (s : State) (h : List Change) → IsEven s → AreSteps terms n c own s h →
       length h + (length s.rows + marked s.marks) ≤ length (fold (step n c) s h).rows + marked (fold (step n c) s h).marks
   few_from s [] even steps = omega arith
   few_from s (Took row ∷ h) even steps =
@@ -35,9 +35,9 @@ module _ (accepts : Accepts) (n : Stakes) (c own : ℕ) where
 
 pub changes_are_few : ChangesAreFew
 unfolding replay marked
-changes_are_few accepts n c own h is =
+changes_are_few terms n c own h is =
     let t = replay n c h in
-    let few = few_from accepts n c own empty h (record { links = refl; marks = refl }) is.steps in
+    let few = few_from terms n c own empty h (record { links = refl; marks = refl }) is.steps in
     let marks = count_below-le (length t.marks) (λ x. is_some (mark_at t.marks x)) in
     omega (arith, few, marks, (even_after n c h).marks)
 

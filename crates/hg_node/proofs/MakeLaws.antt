@@ -1,5 +1,5 @@
 -- What the making of an event answers, and what it leaves recorded
-use Rattle.std.proofs.Common.{◌≡◌, ℕ, ◌<◌, ◌≤◌, ◌^◌, true, List, [], ◌∷◌, ◌++◌, length, Option, Some, None, Result, Ok, Err, refl, sym, ap, ap₂, ◌∙◌, subst, arith}
+use Rattle.std.proofs.Common.{◌≡◌, ℕ, ◌<◌, ◌≤◌, ◌^◌, true, List, [], ◌∷◌, ◌++◌, length, Option, Some, None, Result, Ok, Err, refl, sym, ap, ap₂, ◌∙◌, subst}
 use Rattle.std.specs.Prelude.{replicate, OnErr}
 use Rattle.std.specs.Option.{option_or}
 use Rattle.std.proofs.lemmas.List.{length-replicate}
@@ -11,7 +11,7 @@ use Rattle.hg_life.specs.declared.answers.MakeFault.{MakeFault}
 use Rattle.hg_model.specs.Graph.{IsGraph}
 use Rattle.hg_model.specs.Links.{ParentNames, most_others}
 use Rattle.hg_life.specs.Spelling.{body_bytes}
-use Rattle.hg_life.specs.Verdict.{row_limit, last_name, made_row, draft_rule, collision_rule, room_rule, made_or, making, parents_on, signed_row}
+use Rattle.hg_life.specs.Verdict.{last_name, made_row, draft_rule, collision_rule, room_rule, made_or, making, parents_on, signed_row}
 use Rattle.hg_life.specs.History.{Change}
 use Rattle.hg_life.specs.History.Change.{Made}
 use Rattle.hg_life.specs.NodeView.{NodeView, with_changes, node_rows, IsNode}
@@ -31,7 +31,7 @@ pub record MakesRow {K : Type 0} (accepts : K → Accepts) (v w : NodeView K) (r
   pub making : IsMaking accepts v others time payload (answer.Made (length r.graph.rows)) w
   pub recorded : IsRecorded accepts w (chronicle_with r row (entry.Made (length r.graph.rows)))
   pub graph : IsGraph r.graph.members (r.graph.rows ++ row ∷ [])
-  pub limit : length r.graph.rows < row_limit
+  pub limit : length r.graph.rows < r.limit
 
 -- what is signed of a draft is the node's event
 pub row_of_draft : (r : ChronicleView) (others : List (List ℕ)) (time : ℕ) (payload : List ℕ) (m : ℕ) (names : ParentNames) (sig : List ℕ) (row : Row) → m ≡ r.own → names ≡ draft_names r others →
@@ -58,9 +58,9 @@ module _ {K : Type 0} (accepts : K → Accepts) (keys : K) (r : ChronicleView) (
   -- the answer to a draft, whatever the signature
   answer_by : (sig : List ℕ) → make_answer before others time payload sig
       ≡ made_or (option_or (draft_rule r.own r.graph.rows others payload)
-      (option_or (collision_rule r.graph.rows (made_row r.own r.graph.rows others time payload sig)) (room_rule r.graph.rows))) (length r.graph.rows)
+      (option_or (collision_rule r.graph.rows (made_row r.own r.graph.rows others time payload sig)) (room_rule r.limit r.graph.rows))) (length r.graph.rows)
   unfolding make_answer
-  answer_by sig = ap (λ (G : List Row). making r.own G others time payload sig) is.rows
+  answer_by sig = ap (λ (G : List Row). making r.limit r.own G others time payload sig) is.rows
 
   refused : (sig : List ℕ) (f : MakeFault) → make_answer before others time payload sig ≡ answer.Refused f → with_changes before (make_changes before others time payload sig) ≡ before
   unfolding make_changes
@@ -77,7 +77,7 @@ module _ {K : Type 0} (accepts : K → Accepts) (keys : K) (r : ChronicleView) (
   unfolding no_sig
   draft_refused f speaks =
       let is_answer : make_answer before others time payload no_sig ≡ answer.Refused f = answer_by no_sig
-      ∙ ap (λ (o : Option MakeFault). made_or (option_or o (option_or (collision_rule r.graph.rows (made_row r.own r.graph.rows others time payload no_sig)) (room_rule r.graph.rows))) (length r.graph.rows)) (sym speaks) in
+      ∙ ap (λ (o : Option MakeFault). made_or (option_or o (option_or (collision_rule r.graph.rows (made_row r.own r.graph.rows others time payload no_sig)) (room_rule r.limit r.graph.rows))) (length r.graph.rows)) (sym speaks) in
       record {
         sig = no_sig;
         sized = length-replicate {A = ℕ} 64 0;
@@ -93,15 +93,15 @@ module _ {K : Type 0} (accepts : K → Accepts) (keys : K) (r : ChronicleView) (
     unfolding make_body
     is_signed = subst (λ (G : List Row). accepts keys r.own (body_bytes r.own (parents_on (last_name r.own G) others) time payload) sig ≡ true) (sym is.rows) signed
 
-    answer_of : (o : Option MakeFault) → o ≡ option_or (collision_rule r.graph.rows row) (room_rule r.graph.rows) → make_answer before others time payload sig ≡ made_or o (length r.graph.rows)
+    answer_of : (o : Option MakeFault) → o ≡ option_or (collision_rule r.graph.rows row) (room_rule r.limit r.graph.rows) → make_answer before others time payload sig ≡ made_or o (length r.graph.rows)
     answer_of o rest =
         answer_by sig
-        ∙ (ap (λ (d : Option MakeFault). made_or (option_or d (option_or (collision_rule r.graph.rows (made_row r.own r.graph.rows others time payload sig)) (room_rule r.graph.rows))) (length r.graph.rows)) (sym silent)
-        ∙ (ap (λ (x : Row). made_or (option_or (collision_rule r.graph.rows x) (room_rule r.graph.rows)) (length r.graph.rows)) (sym is_row)
+        ∙ (ap (λ (d : Option MakeFault). made_or (option_or d (option_or (collision_rule r.graph.rows (made_row r.own r.graph.rows others time payload sig)) (room_rule r.limit r.graph.rows))) (length r.graph.rows)) (sym silent)
+        ∙ (ap (λ (x : Row). made_or (option_or (collision_rule r.graph.rows x) (room_rule r.limit r.graph.rows)) (length r.graph.rows)) (sym is_row)
         ∙ ap (λ (e : Option MakeFault). made_or e (length r.graph.rows)) (sym rest)))
 
     -- against the signed row of which a rule speaks
-    pub row_refused : (f : MakeFault) → Some f ≡ option_or (collision_rule r.graph.rows row) (room_rule r.graph.rows) → IsMaking accepts before others time payload (answer.Refused f) before
+    pub row_refused : (f : MakeFault) → Some f ≡ option_or (collision_rule r.graph.rows row) (room_rule r.limit r.graph.rows) → IsMaking accepts before others time payload (answer.Refused f) before
     row_refused f speaks = record {
       sig = sig;
       sized = sized;
@@ -111,7 +111,7 @@ module _ {K : Type 0} (accepts : K → Accepts) (keys : K) (r : ChronicleView) (
     }
 
     -- against which none does
-    pub row_made : length others ≤ most_others → time < 2 ^ 64 → None ≡ option_or (collision_rule r.graph.rows row) (room_rule r.graph.rows) →
+    pub row_made : length others ≤ most_others → time < 2 ^ 64 → None ≡ option_or (collision_rule r.graph.rows row) (room_rule r.limit r.graph.rows) →
         MakesRow accepts before (node_view keys (chronicle_with r row (entry.Made (length r.graph.rows)))) r row others time payload
     unfolding make_changes
     row_made few early rest =
@@ -131,5 +131,5 @@ module _ {K : Type 0} (accepts : K → Accepts) (keys : K) (r : ChronicleView) (
           };
           recorded = recorded;
           graph = recorded_graph accepts keys (chronicle_with r row (entry.Made (length r.graph.rows))) recorded;
-          limit = (admitted r.graph.rows row (sym rest)).room;
+          limit = (admitted r.limit r.graph.rows row (sym rest)).room;
         }

@@ -14,7 +14,7 @@ use Rattle.hg_model.specs.Links.{place_of}
 use Rattle.hg_model.specs.Graph.{HasDistinctNames, creator_at, name_at}
 use Rattle.hg_model.specs.Held.{is_held}
 use Rattle.hg_life.specs.Verdict.{collision_rule, draft_rule, first_by, first_missing, last_name, made_or, made_row, other_rule, room_rule}
-use Rattle.hg_life.specs.NodeView.{NodeView, IsNode, node_rows}
+use Rattle.hg_life.specs.NodeView.{NodeView, IsNode, node_rows, terms_of}
 use Rattle.hg_life.specs.Calls.{IsMaking, make_answer}
 use Rattle.hg_life.specs.Signing.{Accepts}
 use Rattle.hg_model.proofs.NameLaws.{place_of_at}
@@ -136,10 +136,10 @@ late accepts old new others time made node next making =
     let own = old.start.own in
     let G = node_rows old in
     let row = made_row own G others time [] making.sig in
-    let graph = node_graph (accepts old.start.keys) old.start.members old.start.coin own old.history node.coin node.history in
+    let graph = node_graph (terms_of accepts old.start) old.start.members old.start.coin own old.history node.coin node.history in
     let silent : draft_rule own G others [] ≡ None = draft_by own G others graph.graph.distinct (last_name own G) (last_other own G) refl refl next in
-    let is : made ≡ made_or (option_or (collision_rule G row) (room_rule G)) (length G) =
-    making.answers ∙ ap (λ (o : Option MakeFault). made_or (option_or o (option_or (collision_rule G row) (room_rule G))) (length G)) silent in
+    let is : made ≡ made_or (option_or (collision_rule G row) (room_rule old.start.limit G)) (length G) =
+    making.answers ∙ ap (λ (o : Option MakeFault). made_or (option_or o (option_or (collision_rule G row) (room_rule old.start.limit G))) (length G)) silent in
     subst IsLate (sym is) (late_by _ _ _ _ _)
 
 pub makes_on : {K E : Type 0} (accepts : K → Accepts) (old new : NodeView K) (others : List (List ℕ)) (time : ℕ) (result : Result MakeAnswer E) → IsNode accepts old → next_others old ≡ Some others →

@@ -12,10 +12,10 @@ use Rattle.hg_model.specs.Links.{ParentNames, has_few_others, links, parent_name
 use Rattle.hg_model.specs.Graph.{IsGraph}
 use Rattle.hg_model.specs.Fits.{AreHeld, ParentsFit}
 use Rattle.hg_life.specs.Spelling.{body_of, spelling, Spells, payload_limit}
-use Rattle.hg_life.specs.Signing.{Accepts}
 use Rattle.hg_model.specs.Held.{is_held}
-use Rattle.hg_life.specs.Verdict.{row_limit, first_missing, first_by, row_verdict, last_name, parents_on, signed_row, made_row, first_rule, other_rule, payload_rule, draft_rule, collision_rule, room_rule, made_or}
+use Rattle.hg_life.specs.Verdict.{first_missing, first_by, row_verdict, last_name, parents_on, signed_row, made_row, first_rule, other_rule, payload_rule, draft_rule, collision_rule, room_rule, made_or}
 use Rattle.hg_life.specs.History.{IsMade}
+use Rattle.hg_life.specs.Terms.{Terms}
 use Rattle.hg_history.proofs.RuleLaws.{Comes, TakenIs, MadeIs, made_is, taken_is, accepted_place}
 use Rattle.hg_history.proofs.OwnLaws.{chain_own, chain_forking}
 use Rattle.hg_model.proofs.PushLaws.{shaped-push}
@@ -63,12 +63,12 @@ payload_silent payload short = none_where_false (nat_lt payload_limit (length pa
 collision_silent : (G : List Row) (row : Row) → length G ≤ place_of G row.name → collision_rule G row ≡ None
 collision_silent G row past = none_where_false (is_held G row.name) _ None (le-ltb (place_of G row.name) (length G) past) refl
 
-room_silent : (G : List Row) → length G < row_limit → room_rule G ≡ None
-room_silent G room = none_where_false (nat_le row_limit (length G)) _ None (not_le _ _ room) refl
+room_silent : (limit : ℕ) (G : List Row) → length G < limit → room_rule limit G ≡ None
+room_silent limit G room = none_where_false (nat_le limit (length G)) _ None (not_le _ _ room) refl
 
-module _ (accepts : Accepts) (n : Stakes) (own : ℕ) (G : List Row) (row : Row) where
+module _ (terms : Terms) (n : Stakes) (own : ℕ) (G : List Row) (row : Row) where
   -- a row that comes, by the member and on its last row
-  pub made_of : Spells (spelling row) row → Comes accepts n G row → row.creator ≡ own → self_name row.parents ≡ last_name own G → IsMade accepts own G row
+  pub made_of : Spells (spelling row) row → Comes terms n G row → row.creator ≡ own → self_name row.parents ≡ last_name own G → IsMade terms own G row
   made_of spells comes by last =
       let others = other_names row.parents in
       let parents = parents_back row.parents (last_name own G) comes.fits.few last in
@@ -77,7 +77,7 @@ module _ (accepts : Accepts) (n : Stakes) (own : ℕ) (G : List Row) (row : Row)
       let fit = subst (λ (m : ℕ). ParentsFit G m (parent_names row.parents)) by comes.fits.parents_fit in
       let draft = none_of_both (first_rule (last_name own G) others) _ (first_silent row.parents (last_name own G) comes.fits.few last)
       (none_of_both (other_rule own G others) (payload_rule row.payload) (other_silent G own row.parents comes.fits.present.held fit) (payload_silent row.payload spells.sized.payload)) in
-      let end = none_of_both (collision_rule G row) (room_rule G) (collision_silent G row comes.new_name) (room_silent G comes.room) in
+      let end = none_of_both (collision_rule G row) (room_rule terms.limit G) (collision_silent G row comes.new_name) (room_silent terms.limit G comes.room) in
       record {
         others = others;
         time = row.time;
@@ -85,22 +85,22 @@ module _ (accepts : Accepts) (n : Stakes) (own : ℕ) (G : List Row) (row : Row)
         sig = row.sig;
         fields = fields;
         spelled = spells;
-        signed = subst (λ (m : ℕ). accepts m (body_of row) row.sig ≡ true) by comes.signed;
+        signed = subst (λ (m : ℕ). terms.accepts m (body_of row) row.sig ≡ true) by comes.signed;
         made = ap (λ (o : Option MakeFault). made_or o (length G))
             (none_of_both (draft_rule own G others row.payload) _ draft
-            (subst (λ (r : Row). option_or (collision_rule G r) (room_rule G) ≡ None) fields end));
+            (subst (λ (r : Row). option_or (collision_rule G r) (room_rule terms.limit G) ≡ None) fields end));
       }
 
-  module _ (spells : Spells (spelling row) row) (place : ℕ) (again : restore_verdict accepts n own G row ≡ Accepted place) where
-    verdict_is : row_verdict accepts n (other_than (is_next_own own G row) row.creator) G row ≡ Accepted place
-    verdict_is = sym (restore_is_put accepts n own G row) ∙ again
+  module _ (spells : Spells (spelling row) row) (place : ℕ) (again : restore_verdict terms n own G row ≡ Accepted place) where
+    verdict_is : row_verdict terms n (other_than (is_next_own own G row) row.creator) G row ≡ Accepted place
+    verdict_is = sym (restore_is_put terms n own G row) ∙ again
 
     pub restored_place : place ≡ length G
-    restored_place = accepted_place accepts n (other_than (is_next_own own G row) row.creator) G row place verdict_is
+    restored_place = accepted_place terms n (other_than (is_next_own own G row) row.creator) G row place verdict_is
 
-    taken : TakenIs accepts n (other_than (is_next_own own G row) row.creator) G row
+    taken : TakenIs terms n (other_than (is_next_own own G row) row.creator) G row
     taken =
-        taken_is accepts n (other_than (is_next_own own G row) row.creator) G row
+        taken_is terms n (other_than (is_next_own own G row) row.creator) G row
         (record { spelled = spells; accepted = verdict_is ∙ ap (λ (k : ℕ). Accepted k) restored_place })
 
     is_next : is_next_own own G row ≡ true
@@ -109,14 +109,14 @@ module _ (accepts : Accepts) (n : Stakes) (own : ℕ) (G : List Row) (row : Row)
       | inr fails ↦ absurd (taken.by_other (sym (ap (λ (b : Bool). other_than b row.creator) fails)))
     ]
 
-    pub restored_is_made : IsMade accepts own G row
+    pub restored_is_made : IsMade terms own G row
     restored_is_made =
         let parts = and_parts (eqb row.creator own) (is_same_name (self_name row.parents) (last_name own G)) is_next in
         made_of spells taken.comes (eqb-true row.creator own parts.0) (same_from (self_name row.parents) (last_name own G) parts.1)
 
 -- no fork comes with a row that the member might have made
-no_more_forks : (accepts : Accepts) (n : Stakes) (own : ℕ) (G : List Row) (row : Row) → IsGraph n G → IsChain own G → MadeIs accepts n own G row → 3 * forking n (links (G ++ row ∷ [])) < total n
-no_more_forks accepts n own G row graph chain is =
+no_more_forks : (terms : Terms) (n : Stakes) (own : ℕ) (G : List Row) (row : Row) → IsGraph n G → IsChain own G → MadeIs terms n own G row → 3 * forking n (links (G ++ row ∷ [])) < total n
+no_more_forks terms n own G row graph chain is =
     let distinct = distinct-push G row graph.distinct is.comes.new_name in
     let shaped = shaped-push n G row graph.shaped is.comes.fits in
     let longer = subst (λ (m : ℕ). IsChain m (G ++ row ∷ [])) (sym is.by_own) (chain_own own G row chain distinct is.after_last) in
@@ -124,7 +124,7 @@ no_more_forks accepts n own G row graph chain is =
     omega (arith, le, graph.few_forkers)
 
 pub restores_are_makes : RestoresAreMakes
-restores_are_makes accepts n own G row graph chain member spells = (
-  λ again. restored_is_made accepts n own G row spells (length G) again,
-  λ made. (let is = made_is accepts n own G row member graph.distinct made in made_comes_back accepts n own G row is (no_more_forks accepts n own G row graph chain is)),
+restores_are_makes terms n own G row graph chain member spells = (
+  λ again. restored_is_made terms n own G row spells (length G) again,
+  λ made. (let is = made_is terms n own G row member graph.distinct made in made_comes_back terms n own G row is (no_more_forks terms n own G row graph chain is)),
 )

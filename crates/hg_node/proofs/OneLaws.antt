@@ -16,7 +16,7 @@ module _ {K : Type 0} (v : NodeView K) (others : List (List ℕ)) (time : ℕ) (
   refused_answer : (sig : List ℕ) (f : MakeFault) → make_draft v others payload ≡ Some f → make_answer v others time payload sig ≡ answer.Refused f
   unfolding make_draft make_answer
   refused_answer sig f refuses =
-      ap (λ (o : Option MakeFault). made_or (option_or o (option_or (collision_rule (node_rows v) (made_row v.start.own (node_rows v) others time payload sig)) (room_rule (node_rows v)))) (length (node_rows v))) refuses
+      ap (λ (o : Option MakeFault). made_or (option_or o (option_or (collision_rule (node_rows v) (made_row v.start.own (node_rows v) others time payload sig)) (room_rule v.start.limit (node_rows v)))) (length (node_rows v))) refuses
 
   refused_changes : (sig : List ℕ) (f : MakeFault) → make_draft v others payload ≡ Some f → make_changes v others time payload sig ≡ []
   unfolding make_changes

@@ -35,7 +35,7 @@ use Rattle.hg_kept.proofs.NextLaws.{last_reached}
 use Rattle.hg_history.specs.News.{FindsNews}
 use Rattle.hg_history.proofs.SoundLaws.{sound}
 use Rattle.hg_life.specs.History.{State}
-use Rattle.hg_life.specs.NodeView.{node_marks, node_rows, node_state}
+use Rattle.hg_life.specs.NodeView.{node_marks, node_rows, node_state, terms_of}
 use Rattle.hg_life.specs.Signing.{Accepts}
 use Rattle.hg_model.specs.declared.share.Found.{Found}
 use Rattle.hg_kept.specs.Published.{FindsNewsOf}
@@ -337,7 +337,7 @@ opens_by_node accepts keys r is share answer opens =
 pub opened_is_found : (K : Type 0) → OpenedIsFound K
 opened_is_found K accepts v share places found node opens long mine is =
     let g = graph_in v in
-    let now = sound (accepts v.start.keys) v.start.members v.start.coin v.start.own v.history node.coin node.history in
+    let now = sound (terms_of accepts v.start) v.start.members v.start.coin v.start.own v.history node.coin node.history in
     let state : state_by g (node_marks v) ≡ node_state v = ap (λ (L : List Link). record { rows = node_rows v; links = L; marks = node_marks v }) (sym now.linked) in
     let news = elected_is_news g (node_marks v) share (length g.rows) places found.marks now.graph.shaped (omega arith) opens (is ∙ sym (whole_fames g (length g.rows) places refl)) in
     subst (λ (s : State). FindsNews v.start.members v.start.coin s found.len found.share found.marks) state

@@ -38,7 +38,7 @@ module _ {K : Type 0} (accepts : K → Accepts) (keys : K) (r : ChronicleView) (
 
   -- with a log and marks
   logged : List Entry → Marks → ChronicleView
-  logged log marks = chronicle_view r.own r.balances r.graph log marks
+  logged log marks = chronicle_view r.own r.balances r.limit r.graph log marks
 
   changes_are : (b : Bool) → eqb (news_in r len share) 0 ≡ b → publish_changes (node_view keys r) len share ≡ cond b [] (Marked len share ∷ [])
   unfolding publish_changes

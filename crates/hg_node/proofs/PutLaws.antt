@@ -12,10 +12,10 @@ use Rattle.hg_model.specs.Graph.{IsGraph}
 use Rattle.hg_life.specs.Reading.{read_event}
 use Rattle.hg_life.specs.Spelling.{Spells, body_of, spelling}
 use Rattle.hg_model.specs.Stakes.{member_count}
-use Rattle.hg_life.specs.Verdict.{arrival_rule, forkers_rule, full_rule, row_limit, verdict_of, row_verdict}
+use Rattle.hg_life.specs.Verdict.{arrival_rule, forkers_rule, full_rule, verdict_of, row_verdict}
 use Rattle.hg_life.specs.History.{Change}
 use Rattle.hg_life.specs.History.Change.{Took}
-use Rattle.hg_life.specs.NodeView.{NodeView, with_changes, node_rows, IsNode}
+use Rattle.hg_life.specs.NodeView.{NodeView, with_changes, node_rows, IsNode, terms_of}
 use Rattle.hg_life.specs.Calls.{put_answer, put_changes, taken_by, taken_from}
 use Rattle.hg_life.specs.Signing.{Accepts}
 use Rattle.hg_life.proofs.RuleLaws.{option_or_none, has_room}
@@ -35,7 +35,7 @@ pub record IsTaking {K : Type 0} (accepts : K → Accepts) (v w : NodeView K) (r
   pub grown : w ≡ with_changes v (put_changes accepts v bytes)
   pub recorded : IsRecorded accepts w (chronicle_with r row (entry.Took (length r.graph.rows)))
   pub graph : IsGraph r.graph.members (r.graph.rows ++ row ∷ [])
-  pub limit : length r.graph.rows < row_limit
+  pub limit : length r.graph.rows < r.limit
 
 -- what a put left recorded, and answered
 pub record IsPut {K E : Type 0} (accepts : K → Accepts) (v w : NodeView K) (s : ChronicleView) (bytes : List ℕ) (result : Result PutAnswer E) : Type 0 where
@@ -48,14 +48,14 @@ pub record IsPut {K E : Type 0} (accepts : K → Accepts) (v w : NodeView K) (s 
 pub recorded_graph : {K : Type 0} (accepts : K → Accepts) (keys : K) (r : ChronicleView) → IsRecorded accepts (node_view keys r) r → IsGraph r.graph.members r.graph.rows
 recorded_graph accepts keys r is =
     subst (λ (G : List Row). IsGraph r.graph.members G) is.rows
-    (sound (accepts keys) r.graph.members r.graph.coin r.own (node_view keys r).history is.node.coin is.node.history).graph
+    (sound (terms_of accepts (node_view keys r).start) r.graph.members r.graph.coin r.own (node_view keys r).history is.node.coin is.node.history).graph
 
 -- bytes that are no event's
 pub put_faulty : {K : Type 0} (accepts : K → Accepts) (v : NodeView K) (bytes : List ℕ) (e : ByteFault) → read_event bytes ≡ Err e →
     (Refused (fault.Bytes e) ≡ put_answer accepts v bytes) × (v ≡ with_changes v (put_changes accepts v bytes))
 unfolding put_answer put_changes
 put_faulty accepts v bytes e read = (
-  sym (ap (verdict_of (accepts v.start.keys) v.start.members v.start.own (node_rows v)) read),
+  sym (ap (verdict_of (terms_of accepts v.start) v.start.members v.start.own (node_rows v)) read),
   sym (with_none v (put_changes accepts v bytes) (ap (taken_from accepts v) read)),
 )
 
@@ -68,17 +68,17 @@ module _ {K : Type 0} (accepts : K → Accepts) (keys : K) (r : ChronicleView) (
   abbrev rules : Row → Option PutAnswer
   rules row =
       option_or (arrival_rule (accepts keys) r.graph.members r.own r.graph.rows row)
-      (option_or (forkers_rule r.graph.members r.graph.rows row) (full_rule r.graph.rows))
+      (option_or (forkers_rule r.graph.members r.graph.rows row) (full_rule r.limit r.graph.rows))
 
   in_order : (row : Row) → put_rules (accepts keys) r row ≡ rules row
-  in_order row = grouped (arrival_rule (accepts keys) r.graph.members r.own r.graph.rows row) (forkers_rule r.graph.members r.graph.rows row) (full_rule r.graph.rows)
+  in_order row = grouped (arrival_rule (accepts keys) r.graph.members r.own r.graph.rows row) (forkers_rule r.graph.members r.graph.rows row) (full_rule r.limit r.graph.rows)
 
   module _ (row : Row) (read : read_event bytes ≡ Ok row) where
     answer_by : put_answer accepts (node_view keys r) bytes ≡ unwrap_or (rules row) (Accepted (length r.graph.rows))
     unfolding put_answer
     answer_by =
-        ap (verdict_of (accepts keys) r.graph.members r.own (node_rows (node_view keys r))) read
-        ∙ ap (λ (G : List Row). row_verdict (accepts keys) r.graph.members r.own G row) is.rows
+        ap (verdict_of (terms_of accepts (node_view keys r).start) r.graph.members r.own (node_rows (node_view keys r))) read
+        ∙ ap (λ (G : List Row). row_verdict (terms_of accepts (node_view keys r).start) r.graph.members r.own G row) is.rows
 
     -- against which a rule speaks
     pub put_refused : (a : PutAnswer) → Some a ≡ put_rules (accepts keys) r row →
@@ -88,7 +88,7 @@ module _ {K : Type 0} (accepts : K → Accepts) (keys : K) (r : ChronicleView) (
         let answer : put_answer accepts (node_view keys r) bytes ≡ a = answer_by ∙ ap (λ (o : Option PutAnswer). unwrap_or o (Accepted (length r.graph.rows))) (sym speaks) in (
           sym answer,
           sym (with_none (node_view keys r) (put_changes accepts (node_view keys r) bytes)
-              (other_puts_add_none K accepts (node_view keys r) bytes (λ place accepted. rule_accepts_none (accepts keys) r.graph.members r.own r.graph.rows row a place (sym speaks) (sym answer ∙ accepted)))),
+              (other_puts_add_none K accepts (node_view keys r) bytes (λ place accepted. rule_accepts_none (terms_of accepts (node_view keys r).start) r.graph.members r.own r.graph.rows row a place (sym speaks) (sym answer ∙ accepted)))),
         )
 
     -- against which none does
@@ -97,8 +97,8 @@ module _ {K : Type 0} (accepts : K → Accepts) (keys : K) (r : ChronicleView) (
     put_taken fit none =
         let silent : None ≡ rules row = none ∙ in_order row in
         let answer : put_answer accepts (node_view keys r) bytes ≡ Accepted (length r.graph.rows) = answer_by ∙ ap (λ (o : Option PutAnswer). unwrap_or o (Accepted (length r.graph.rows))) (sym silent) in
-        let by_row : row_verdict (accepts keys) r.graph.members r.own (node_rows (node_view keys r)) row ≡ Accepted (length r.graph.rows) =
-        ap (λ (G : List Row). row_verdict (accepts keys) r.graph.members r.own G row) is.rows ∙ ap (λ (o : Option PutAnswer). unwrap_or o (Accepted (length r.graph.rows))) (sym silent) in
+        let by_row : row_verdict (terms_of accepts (node_view keys r).start) r.graph.members r.own (node_rows (node_view keys r)) row ≡ Accepted (length r.graph.rows) =
+        ap (λ (G : List Row). row_verdict (terms_of accepts (node_view keys r).start) r.graph.members r.own G row) is.rows ∙ ap (λ (o : Option PutAnswer). unwrap_or o (Accepted (length r.graph.rows))) (sym silent) in
         let events : put_changes accepts (node_view keys r) bytes ≡ Took row ∷ [] = ap (taken_from accepts (node_view keys r)) read ∙ ap (λ (a : PutAnswer). taken_by a row) by_row in
         let node = subst (λ (es : List Change). IsNode accepts (with_changes (node_view keys r) es)) events (puts_leave_a_node K accepts (node_view keys r) bytes fit is.node) in
         let recorded = recorded_after accepts keys r (Took row) (entry.Took (length r.graph.rows)) refl is node in
@@ -108,7 +108,7 @@ module _ {K : Type 0} (accepts : K → Accepts) (keys : K) (r : ChronicleView) (
           grown = sym (ap (with_changes (node_view keys r)) events ∙ shown_after accepts keys r (Took row) (entry.Took (length r.graph.rows)) refl is);
           recorded = recorded;
           graph = recorded_graph accepts keys (chronicle_with r row (entry.Took (length r.graph.rows))) recorded;
-          limit = has_room r.graph.members r.graph.rows row rest;
+          limit = has_room r.graph.members r.limit r.graph.rows row rest;
         }
 
     -- and what is left, whether there was memory for the row or not
@@ -151,7 +151,7 @@ module _ {K : Type 0} (accepts : K → Accepts) (keys : K) (r : ChronicleView) {
       subst (λ (w : NodeView K). accepts w.start.keys row.creator (body_of row) row.sig ≡ true) (sym view) signed in
       is_told
       ∙ (ap (λ (t : ChronicleView). signed_put_rules t row) same
-      ∙ ap (λ (p : Option PutAnswer). option_or p (full_rule r.graph.rows)) (signed_answer (accepts keys) (Some r.own) r.graph row here accepted))
+      ∙ ap (λ (p : Option PutAnswer). option_or p (full_rule r.limit r.graph.rows)) (signed_answer (accepts keys) (Some r.own) r.graph row here accepted))
 
   pub event_refused : (a : PutAnswer) → Some a ≡ signed_put_rules asked row →
       (a ≡ put_answer accepts (node_view keys r) (spelling row)) × (node_view keys r ≡ with_changes (node_view keys r) (put_changes accepts (node_view keys r) (spelling row)))

@@ -1,7 +1,8 @@
 -- A change of the history is recorded: one row and one entry more
-use Rattle.std.proofs.Common.{◌≡◌, ℕ, suc, ◌<◌, List, [], ◌∷◌, ◌++◌, length, fold, refl, sym, ap, ap₂, ◌∙◌, subst, arith}
+use Rattle.std.proofs.Common.{◌≡◌, ℕ, suc, ◌<◌, ◌≤◌, List, [], ◌∷◌, ◌++◌, length, fold, refl, sym, ap, ap₂, ◌∙◌, subst, arith}
 use Rattle.std.proofs.lemmas.List.{length_push}
 use Rattle.std.proofs.lemmas.List.{length-map}
+use Rattle.hg_life.specs.Terms.{row_limit}
 use Rattle.hg_life.specs.declared.members.MemberEntry.{MemberEntry}
 use Rattle.hg_model.specs.declared.row.Row.{Row}
 use Rattle.hg_model.specs.Stakes.{Stakes}
@@ -15,7 +16,7 @@ use Rattle.hg_model.specs.Links.{Link, links}
 use Rattle.hg_model.specs.Fame.{Marks}
 use Rattle.hg_life.specs.Kept.{kept}
 use Rattle.hg_life.specs.Pay.{book_of}
-use Rattle.hg_life.specs.NodeView.{NodeView, with_changes, node_state, node_rows, node_marks, book_kept, log_from, history_of, IsNode}
+use Rattle.hg_life.specs.NodeView.{NodeView, with_changes, node_state, node_rows, node_marks, book_kept, log_from, history_of, IsNode, terms_of}
 use Rattle.hg_life.specs.Signing.{Accepts}
 use Rattle.hg_history.proofs.StateLaws.{replay-push}
 use Rattle.hg_history.proofs.SoundLaws.{sound}
@@ -51,7 +52,7 @@ state_with G L marks = record { rows = G; links = L; marks = marks }
 pub state_is : {K : Type 0} (accepts : K → Accepts) (keys : K) (r : ChronicleView) → IsRecorded accepts (node_view keys r) r → node_state (node_view keys r) ≡ chronicle_state r
 state_is accepts keys r is =
     let v = node_view keys r in
-    let now = sound (accepts keys) r.graph.members r.graph.coin r.own v.history is.node.coin is.node.history in
+    let now = sound (terms_of accepts (node_view keys r).start) r.graph.members r.graph.coin r.own v.history is.node.coin is.node.history in
     ap (λ (L : List Link). state_with (node_rows v) L (node_marks v)) (now.linked ∙ ap links is.rows)
     ∙ ap₂ (λ (G : List Row) (marks : Marks). state_with G (links r.graph.rows) marks) is.rows is.marks
 
@@ -63,7 +64,7 @@ book_is accepts keys r is = ap (λ (s : State). book_of r.balances s.rows (kept 
 abbrev pub recorded_by : ChronicleView → Change → Entry → ChronicleView
 recorded_by r e matches =
     let s = step r.graph.members r.graph.coin (chronicle_state r) e in
-    chronicle_view r.own r.balances (graph_of r.graph.members r.graph.coin s.rows) (r.log ++ matches ∷ []) s.marks
+    chronicle_view r.own r.balances r.limit (graph_of r.graph.members r.graph.coin s.rows) (r.log ++ matches ∷ []) s.marks
 
 -- records of a node, a change, and the entry that tells it
 module _ {K : Type 0} (accepts : K → Accepts) (keys : K) (r : ChronicleView) (e : Change) (matches : Entry)
@@ -104,14 +105,15 @@ module _ {K : Type 0} (accepts : K → Accepts) (keys : K) (r : ChronicleView) (
       subst (λ (w : NodeView K). IsRecorded accepts w (recorded_by r e matches)) shown_after
       (record { node = node; rows = ap (λ (s : State). s.rows) state_after; log = log_after; marks = ap (λ (s : State). s.marks) state_after })
 
-begins : {K : Type 0} (accepts : K → Accepts) (members : MemberList) (own : ℕ) (keys : K) → IsMemberList members → own < length members.entries →
-    IsRecorded accepts (node_view keys (no_chronicle members own)) (no_chronicle members own)
+begins : {K : Type 0} (accepts : K → Accepts) (members : MemberList) (own limit : ℕ) (keys : K) → IsMemberList members → own < length members.entries → limit ≤ row_limit →
+    IsRecorded accepts (node_view keys (no_chronicle members own limit)) (no_chronicle members own limit)
 unfolding replay
-begins accepts members own keys lawful member = record {
+begins accepts members own limit keys lawful member low = record {
   node = record {
     few_members = omega (arith, length-stakes members, lawful.few);
     coin = lawful.coin_low;
     balances = length-map members.entries (λ (e : MemberEntry). e.balance) ∙ sym (length-stakes members);
+    limit = low;
     history = record { member = omega (arith, length-stakes members, member); stake = total_some members lawful; steps = tt };
   };
   rows = refl;
@@ -119,6 +121,6 @@ begins accepts members own keys lawful member = record {
   marks = refl;
 }
 
-pub recorded_none : {K : Type 0} (accepts : K → Accepts) (members : MemberList) (own : ℕ) (keys : K) (r : ChronicleView) → IsMemberList members → own < length members.entries →
-    r ≡ no_chronicle members own → IsRecorded accepts (node_view keys r) r
-recorded_none accepts members own keys r lawful member is = rw is (begins accepts members own keys lawful member)
+pub recorded_none : {K : Type 0} (accepts : K → Accepts) (members : MemberList) (own limit : ℕ) (keys : K) (r : ChronicleView) → IsMemberList members → own < length members.entries → limit ≤ row_limit →
+    r ≡ no_chronicle members own limit → IsRecorded accepts (node_view keys r) r
+recorded_none accepts members own limit keys r lawful member low is = rw is (begins accepts members own limit keys lawful member low)

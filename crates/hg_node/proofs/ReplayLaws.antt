@@ -16,8 +16,9 @@ use Rattle.hg_model.specs.Stakes.{Stakes}
 use Rattle.hg_life.specs.Verdict.{made_row}
 use Rattle.hg_life.specs.History.{Change, State, IsTaken, IsMade, IsStep}
 use Rattle.hg_life.specs.History.Change.{Took, Made, Marked}
-use Rattle.hg_life.specs.NodeView.{NodeView, with_changes, node_rows, node_state, IsNode}
+use Rattle.hg_life.specs.NodeView.{NodeView, with_changes, node_rows, node_state, IsNode, terms_of}
 use Rattle.hg_life.specs.Calls.{put_changes, taken_from, taken_by, publish_answer, publish_changes, make_answer}
+use Rattle.hg_life.specs.Terms.{Terms}
 use Rattle.std.proofs.lemmas.List.{append-nil}
 use Rattle.hg_model.proofs.PushLaws.{slice_get-last}
 use Rattle.hg_event.proofs.Reading.{AreBytes}
@@ -49,7 +50,7 @@ puts_replay K accepts v bytes place accepted =
 
 -- a row that was taken
 
-took_replays : {K : Type 0} (accepts : K → Accepts) (v : NodeView K) (row : Row) → IsTaken (accepts v.start.keys) v.start.members v.start.own (node_rows v) row →
+took_replays : {K : Type 0} (accepts : K → Accepts) (v : NodeView K) (row : Row) → IsTaken (terms_of accepts v.start) v.start.members v.start.own (node_rows v) row →
     replay_one accepts v (StoredTook (spelling row)) ≡ Some (with_changes v (Took row ∷ []))
 unfolding replay_one put_changes
 took_replays {K} accepts v row taken =
@@ -59,16 +60,16 @@ took_replays {K} accepts v row taken =
 -- a row that was made
 
 -- of a node whose history may go on so
-restored_where_made : {K : Type 0} (accepts : K → Accepts) (v : NodeView K) (row : Row) → IsNode accepts v → IsMade (accepts v.start.keys) v.start.own (node_rows v) row →
-    restore_verdict (accepts v.start.keys) v.start.members v.start.own (node_rows v) row ≡ Accepted (length (node_rows v))
+restored_where_made : {K : Type 0} (accepts : K → Accepts) (v : NodeView K) (row : Row) → IsNode accepts v → IsMade (terms_of accepts v.start) v.start.own (node_rows v) row →
+    restore_verdict (terms_of accepts v.start) v.start.members v.start.own (node_rows v) row ≡ Accepted (length (node_rows v))
 restored_where_made accepts v row node made =
-    let keys = accepts v.start.keys in
+    let terms = terms_of accepts v.start in
     let n = v.start.members in
-    let s = sound keys n v.start.coin v.start.own v.history node.coin node.history in
-    let later = sound_made keys n v.start.coin v.start.own node.history.member node.coin (node_state v) row s made in
-    made_comes_back keys n v.start.own (node_rows v) row (made_is keys n v.start.own (node_rows v) row node.history.member s.graph.distinct made) later.graph.few_forkers
+    let s = sound terms n v.start.coin v.start.own v.history node.coin node.history in
+    let later = sound_made terms n v.start.coin v.start.own node.history.member node.coin (node_state v) row s made in
+    made_comes_back terms n v.start.own (node_rows v) row (made_is terms n v.start.own (node_rows v) row node.history.member s.graph.distinct made) later.graph.few_forkers
 
-pub made_replays : {K : Type 0} (accepts : K → Accepts) (v : NodeView K) (row : Row) → IsNode accepts v → IsMade (accepts v.start.keys) v.start.own (node_rows v) row →
+pub made_replays : {K : Type 0} (accepts : K → Accepts) (v : NodeView K) (row : Row) → IsNode accepts v → IsMade (terms_of accepts v.start) v.start.own (node_rows v) row →
     replay_one accepts v (StoredMade (spelling row)) ≡ Some (with_changes v (Made row ∷ []))
 unfolding replay_one restore_changes
 made_replays accepts v row node made =
@@ -103,7 +104,7 @@ marks_replay K accepts v len share le lawful some =
 -- each change
 
 pub steps_replay : (K : Type 0) (accepts : K → Accepts) (v : NodeView K) (e : Change) → IsNode accepts v → HasLawfulShare e →
-    IsStep (accepts v.start.keys) v.start.members v.start.coin v.start.own (node_state v) e → replay_one accepts v (stored_of e) ≡ Some (with_changes v (e ∷ []))
+    IsStep (terms_of accepts v.start) v.start.members v.start.coin v.start.own (node_state v) e → replay_one accepts v (stored_of e) ≡ Some (with_changes v (e ∷ []))
 unfolding publish_answer
 steps_replay K accepts v (Took row) node lawful may = took_replays accepts v row may
 steps_replay K accepts v (Made row) node lawful may = made_replays accepts v row node may
@@ -112,15 +113,16 @@ steps_replay K accepts v (Marked len share) node lawful may = mark_replays accep
 -- a node that goes on by one change
 
 step_of : {K : Type 0} (accepts : K → Accepts) (v : NodeView K) (e : Change) → IsNode accepts (with_changes v (e ∷ [])) →
-    IsStep (accepts v.start.keys) v.start.members v.start.coin v.start.own (node_state v) e
-step_of accepts v e left = (rest (accepts v.start.keys) v.start.members v.start.coin v.start.own v.history (e ∷ []) left.history).0
+    IsStep (terms_of accepts v.start) v.start.members v.start.coin v.start.own (node_state v) e
+step_of accepts v e left = (rest (terms_of accepts v.start) v.start.members v.start.coin v.start.own v.history (e ∷ []) left.history).0
 
 node_before : {K : Type 0} (accepts : K → Accepts) (v : NodeView K) (es : List Change) → IsNode accepts (with_changes v es) → IsNode accepts v
 node_before accepts v es left = record {
   few_members = left.few_members;
   coin = left.coin;
   balances = left.balances;
-  history = moment (accepts v.start.keys) v.start.members v.start.coin v.start.own v.history es left.history;
+  limit = left.limit;
+  history = moment (terms_of accepts v.start) v.start.members v.start.coin v.start.own v.history es left.history;
 }
 
 pub changes_replay : (K : Type 0) → ChangesReplay K
@@ -162,14 +164,14 @@ histories_replay K accepts v node lawful = from [] v.history node lawful
 
 module _ (K : Type 0) (accepts : K → Accepts) (v : NodeView K) (bytes : List ℕ) where
   abbrev here : Row → PutAnswer
-  here row = restore_verdict (accepts v.start.keys) v.start.members v.start.own (node_rows v) row
+  here row = restore_verdict (terms_of accepts v.start) v.start.members v.start.own (node_rows v) row
 
   one_of_read : (read : Result Row ByteFault) → read_event bytes ≡ read → (place : ℕ) → restore_answer accepts v bytes ≡ Accepted place →
       (row : Row) × (read_event bytes ≡ Ok row) × (here row ≡ Accepted place)
   unfolding restore_answer
   one_of_read (Err e) is place accepted =
-      (let no_row : Refused _ ≡ Accepted place = sym (ap (λ (r : Result Row ByteFault). restore_verdict_of (accepts v.start.keys) v.start.members v.start.own (node_rows v) r) is) ∙ accepted in cc)
-  one_of_read (Ok row) is place accepted = (row, is, sym (ap (λ (r : Result Row ByteFault). restore_verdict_of (accepts v.start.keys) v.start.members v.start.own (node_rows v) r) is) ∙ accepted)
+      (let no_row : Refused _ ≡ Accepted place = sym (ap (λ (r : Result Row ByteFault). restore_verdict_of (terms_of accepts v.start) v.start.members v.start.own (node_rows v) r) is) ∙ accepted in cc)
+  one_of_read (Ok row) is place accepted = (row, is, sym (ap (λ (r : Result Row ByteFault). restore_verdict_of (terms_of accepts v.start) v.start.members v.start.own (node_rows v) r) is) ∙ accepted)
 
   module _ (fit : AreBytes bytes) (node : IsNode accepts v) where
     node_of_answer : (row : Row) → read_event bytes ≡ Ok row → (answer : PutAnswer) → here row ≡ answer → IsNode accepts (with_changes v (restored_by answer row))
@@ -178,7 +180,7 @@ module _ (K : Type 0) (accepts : K → Accepts) (v : NodeView K) (bytes : List �
     node_of_answer row is (Accepted p) answer_is =
         let spells = read_event-Spells bytes row fit is in
         node_with accepts v (Made row) node
-        (restored_is_made (accepts v.start.keys) v.start.members v.start.own (node_rows v) row (subst (λ (bs : List ℕ). Spells bs row) spells.spelled spells) p answer_is)
+        (restored_is_made (terms_of accepts v.start) v.start.members v.start.own (node_rows v) row (subst (λ (bs : List ℕ). Spells bs row) spells.spelled spells) p answer_is)
 
     node_of_read : (read : Result Row ByteFault) → read_event bytes ≡ read → IsNode accepts (with_changes v (restore_changes accepts v bytes))
     unfolding restore_changes
@@ -194,7 +196,7 @@ restores_add_one K accepts v bytes fit place accepted =
     let one = one_of_read K accepts v bytes (read_event bytes) refl place accepted in
     let row : Row = one.0 in
     let spells = read_event-Spells bytes row fit one.1 in (
-      restored_place (accepts v.start.keys) v.start.members v.start.own (node_rows v) row (subst (λ (bs : List ℕ). Spells bs row) spells.spelled spells) place one.2,
+      restored_place (terms_of accepts v.start) v.start.members v.start.own (node_rows v) row (subst (λ (bs : List ℕ). Spells bs row) spells.spelled spells) place one.2,
       (row, one.1, ap (restored_from accepts v) one.1 ∙ ap (λ (a : PutAnswer). restored_by a row) one.2),
     )
 
@@ -217,8 +219,8 @@ replays_are_nodes K accepts v w (StoredMarked len k m) fit node is =
     subst (IsNode accepts) marks.1 (publishes_leave_a_node K accepts v len share le node)
 
 -- what a rule of restoring answers adds nothing
-pub restored_other : (accepts : Accepts) (n : Stakes) (own : ℕ) (G : List Row) (row : Row) (a : PutAnswer) → restore_rules accepts n own G row ≡ Some a → restored_by a row ≡ []
-restored_other accepts n own G row (Accepted p) speaks =
-    absurd (rule_accepts_none accepts n (other_than (is_next_own own G row) row.creator) G row (Accepted p) p (sym (rules_of_put accepts n own G row) ∙ speaks) refl)
-restored_other accepts n own G row (Known p) speaks = refl
-restored_other accepts n own G row (Refused f) speaks = refl
+pub restored_other : (terms : Terms) (n : Stakes) (own : ℕ) (G : List Row) (row : Row) (a : PutAnswer) → restore_rules terms n own G row ≡ Some a → restored_by a row ≡ []
+restored_other terms n own G row (Accepted p) speaks =
+    absurd (rule_accepts_none terms n (other_than (is_next_own own G row) row.creator) G row (Accepted p) p (sym (rules_of_put terms n own G row) ∙ speaks) refl)
+restored_other terms n own G row (Known p) speaks = refl
+restored_other terms n own G row (Refused f) speaks = refl

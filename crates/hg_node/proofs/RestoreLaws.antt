@@ -16,9 +16,10 @@ use Rattle.hg_model.specs.Forks.{forking}
 use Rattle.hg_model.specs.Graph.{creator_at}
 use Rattle.hg_model.specs.Fits.{AreHeld, ParentsFit}
 use Rattle.hg_life.specs.Spelling.{body_of, spelling}
-use Rattle.hg_life.specs.Signing.{Accepts}
 use Rattle.hg_model.specs.Held.{is_held}
-use Rattle.hg_life.specs.Verdict.{row_limit, has_bytes, first_missing, first_by, member_rule, name_rule, signature_rule, impostor_rule, missing_rule, creator_rule, arrival_rule, forkers_rule, full_rule, row_verdict, last_name, forking_with}
+use Rattle.hg_life.specs.Verdict.{has_bytes, first_missing, first_by, member_rule, name_rule, signature_rule, impostor_rule, missing_rule, creator_rule, arrival_rule, forkers_rule, full_rule, row_verdict, last_name, forking_with}
+use Rattle.hg_life.specs.Signing.{Accepts}
+use Rattle.hg_life.specs.Terms.{Terms}
 use Rattle.hg_history.proofs.RuleLaws.{MadeIs}
 use Rattle.hg_node.specs.Restore.{self_name, is_same_name, is_next_own, next_own_rule, restore_rules, restore_verdict}
 
@@ -78,8 +79,8 @@ creator_silent G m (Some names) fit =
 forkers_silent : (n : Stakes) (G : List Row) (row : Row) → 3 * forking n (links (G ++ row ∷ [])) < total n → forkers_rule n G row ≡ None
 forkers_silent n G row few = none_where_false (nat_le (total n) (3 * forking_with n G row)) _ None (not_le _ _ few) refl
 
-full_silent : (G : List Row) → length G < row_limit → full_rule G ≡ None
-full_silent G room = none_where_false (nat_le row_limit (length G)) _ None (not_le _ _ room) refl
+full_silent : (limit : ℕ) (G : List Row) → length G < limit → full_rule limit G ≡ None
+full_silent limit G room = none_where_false (nat_le limit (length G)) _ None (not_le _ _ room) refl
 
 -- names that are the same
 
@@ -99,16 +100,16 @@ next_own_from : (own : ℕ) (G : List Row) (row : Row) → row.creator ≡ own �
 next_own_from own G row by last = and_from (eqb row.creator own) (is_same_name (self_name row.parents) (last_name own G)) (eq-eqb row.creator own by) (same_names (self_name row.parents) (last_name own G) last)
 
 -- a row that the member might have made is accepted when it comes back
-pub made_comes_back : (accepts : Accepts) (n : Stakes) (own : ℕ) (G : List Row) (row : Row) → MadeIs accepts n own G row → 3 * forking n (links (G ++ row ∷ [])) < total n →
-    restore_verdict accepts n own G row ≡ Accepted (length G)
-made_comes_back accepts n own G row made few =
+pub made_comes_back : (terms : Terms) (n : Stakes) (own : ℕ) (G : List Row) (row : Row) → MadeIs terms n own G row → 3 * forking n (links (G ++ row ∷ [])) < total n →
+    restore_verdict terms n own G row ≡ Accepted (length G)
+made_comes_back terms n own G row made few =
     let fits = made.comes.fits in
     let stranger : next_own_rule own G row ≡ None = ap (λ (b : Bool). cond b None (Some (Refused fault.Impostor))) (next_own_from own G row made.by_own made.after_last) in
     let parents = none_of_both (missing_rule G row.parents) (creator_rule G row.creator row.parents) (missing_silent G row.parents fits.present.held) (creator_silent G row.creator row.parents fits.parents_fit) in
     let arrival = none_of_both (member_rule n row) _ (member_silent n row fits.member) (none_of_both (name_rule G row) _ (name_silent G row made.comes.new_name)
-    (none_of_both (signature_rule accepts row) _ (signature_silent accepts row made.comes.signed) (none_of_both (next_own_rule own G row) _ stranger parents))) in
+    (none_of_both (signature_rule terms.accepts row) _ (signature_silent terms.accepts row made.comes.signed) (none_of_both (next_own_rule own G row) _ stranger parents))) in
     ap (λ (o : Option PutAnswer). unwrap_or o (Accepted (length G)))
-    (none_of_both _ (option_or (forkers_rule n G row) (full_rule G)) arrival (none_of_both (forkers_rule n G row) (full_rule G) (forkers_silent n G row few) (full_silent G made.comes.room)))
+    (none_of_both _ (option_or (forkers_rule n G row) (full_rule terms.limit G)) arrival (none_of_both (forkers_rule n G row) (full_rule terms.limit G) (forkers_silent n G row few) (full_silent terms.limit G made.comes.room)))
 
 -- a member other than this one, or this one where the row is not the next
 abbrev pub other_than : Bool → ℕ → ℕ
@@ -119,15 +120,15 @@ impostor_as true row = sym (none_where_false (eqb row.creator (suc row.creator))
 impostor_as false row = sym (ap (λ (b : Bool). cond b (Some (Refused fault.Impostor)) None) (eq-eqb row.creator row.creator refl))
 
 -- to restore is to put to the node of a member that did not make the row, or to its creator's where it is not the next one
-pub rules_of_put : (accepts : Accepts) (n : Stakes) (own : ℕ) (G : List Row) (row : Row) →
-    restore_rules accepts n own G row ≡ option_or (arrival_rule accepts n (other_than (is_next_own own G row) row.creator) G row) (option_or (forkers_rule n G row) (full_rule G))
-rules_of_put accepts n own G row =
+pub rules_of_put : (terms : Terms) (n : Stakes) (own : ℕ) (G : List Row) (row : Row) →
+    restore_rules terms n own G row ≡ option_or (arrival_rule terms.accepts n (other_than (is_next_own own G row) row.creator) G row) (option_or (forkers_rule n G row) (full_rule terms.limit G))
+rules_of_put terms n own G row =
     ap (λ (o : Option PutAnswer). option_or
-    (option_or (member_rule n row) (option_or (name_rule G row) (option_or (signature_rule accepts row)
+    (option_or (member_rule n row) (option_or (name_rule G row) (option_or (signature_rule terms.accepts row)
     (option_or o (option_or (missing_rule G row.parents) (creator_rule G row.creator row.parents))))))
-    (option_or (forkers_rule n G row) (full_rule G)))
+    (option_or (forkers_rule n G row) (full_rule terms.limit G)))
     (impostor_as (is_next_own own G row) row)
 
-pub restore_is_put : (accepts : Accepts) (n : Stakes) (own : ℕ) (G : List Row) (row : Row) →
-    restore_verdict accepts n own G row ≡ row_verdict accepts n (other_than (is_next_own own G row) row.creator) G row
-restore_is_put accepts n own G row = ap (λ (o : Option PutAnswer). unwrap_or o (Accepted (length G))) (rules_of_put accepts n own G row)
+pub restore_is_put : (terms : Terms) (n : Stakes) (own : ℕ) (G : List Row) (row : Row) →
+    restore_verdict terms n own G row ≡ row_verdict terms n (other_than (is_next_own own G row) row.creator) G row
+restore_is_put terms n own G row = ap (λ (o : Option PutAnswer). unwrap_or o (Accepted (length G))) (rules_of_put terms n own G row)

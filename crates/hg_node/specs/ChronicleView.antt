@@ -18,26 +18,37 @@ use Rattle.hg_graph.specs.Held.{graph_with}
 use Rattle.hg_life.specs.History.{State, news, with_row, with_marks}
 use Rattle.hg_life.specs.NodeView.{NodeView, node_rows, node_marks, node_state, log, history_of, IsNode}
 use Rattle.hg_life.specs.Signing.{Accepts}
+use Rattle.hg_life.specs.Terms.{row_limit}
 use Rattle.hg_life.specs.StateWords.{state_by}
 use Rattle.hg_history.specs.News.{FindsNews}
 use Rattle.hg_kept.specs.Published.{Published, Keeps}
 use Rattle.hg_pay.specs.Account.{Account}
 use Rattle.hg_votes.specs.Counting.{CarriesTo, Counting}
 
--- whose node it is, the balances that it began with, its rows as a graph, the log, and the published marks
+-- whose node it is, the balances that it began with, how many rows it holds at most, its rows as a graph, the log, and the
+-- published marks
 pub record ChronicleView : Type 0 where
   pub own : ℕ
   pub balances : List ℕ
+  pub limit : ℕ
   pub graph : Graph
   pub log : List Entry
   pub marks : Marks
 
-abbrev pub chronicle_view : ℕ → List ℕ → Graph → List Entry → Marks → ChronicleView
-chronicle_view own balances graph log marks = record { own = own; balances = balances; graph = graph; log = log; marks = marks }
+abbrev pub chronicle_view : ℕ → List ℕ → ℕ → Graph → List Entry → Marks → ChronicleView
+chronicle_view own balances limit graph log marks = record {
+  own = own;
+  balances = balances;
+  limit = limit;
+  graph = graph;
+  log = log;
+  marks = marks;
+}
 
--- of the node of a member among these, without rows
-abbrev pub no_chronicle : MemberList → ℕ → ChronicleView
-no_chronicle members own = chronicle_view own (balances_of members) (graph_of (stakes_of members) members.coin []) [] []
+-- of the node of a member among these, without rows, with this limit
+abbrev pub no_chronicle : MemberList → ℕ → ℕ → ChronicleView
+no_chronicle members own limit =
+    chronicle_view own (balances_of members) limit (graph_of (stakes_of members) members.coin []) [] []
 
 -- the state of the node
 abbrev pub chronicle_state : ChronicleView → State
@@ -49,7 +60,9 @@ book_in r = book_of r.balances r.graph.rows (kept r.graph.members (chronicle_sta
 
 -- with one row more, which came as the entry says
 abbrev pub chronicle_with : ChronicleView → Row → Entry → ChronicleView
-chronicle_with r row entry = chronicle_view r.own r.balances (graph_with r.graph row) (r.log ++ entry ∷ []) (with_row r.graph.members (chronicle_state r) row).marks
+chronicle_with r row entry =
+    chronicle_view r.own r.balances r.limit (graph_with r.graph row) (r.log ++ entry ∷ [])
+    (with_row r.graph.members (chronicle_state r) row).marks
 
 -- with one row more that was taken
 abbrev pub chronicle_took : ChronicleView → Row → ChronicleView
@@ -70,7 +83,8 @@ news_entries count len share = cond (count == 0) [] (entry.Marked len share ∷ 
 -- with these marks more
 abbrev pub chronicle_news : ChronicleView → ℕ → Share → ChronicleView
 chronicle_news r len share =
-    chronicle_view r.own r.balances r.graph (r.log ++ news_entries (news_in r len share) len share) (with_marks r.graph.members r.graph.coin (chronicle_state r) len share).marks
+    chronicle_view r.own r.balances r.limit r.graph (r.log ++ news_entries (news_in r len share) len share)
+    (with_marks r.graph.members r.graph.coin (chronicle_state r) len share).marks
 
 -- the place of the last row that the member made
 abbrev pub last_own_place : ℕ → List Row → Option ℕ
@@ -97,15 +111,22 @@ pub record KeepsBook (G : List Row) (order : List Placed) (a : Account) : Type 0
   pub book : a.book ≡ book_of a.opening G order
   pub memory : length G ≤ a.room
 
--- both, and the table of votes is that of first rows of the graph
-abbrev pub KeepsAll : ℕ → Graph → List Entry → Published → Option ℕ → ℕ → Account → Counting → Type 0
-KeepsAll own graph log v last_own capacity a votes =
-    KeepsRecord own graph log v last_own capacity × KeepsBook graph.rows v.order a × CarriesTo votes graph
+-- both, the table of votes is that of first rows of the graph, and the limit is no greater than the greatest
+abbrev pub KeepsAll : ℕ → Graph → List Entry → Published → Option ℕ → ℕ → Account → Counting → ℕ → Type 0
+KeepsAll own graph log v last_own capacity a votes limit =
+    KeepsRecord own graph log v last_own capacity × KeepsBook graph.rows v.order a × CarriesTo votes graph × (limit ≤ row_limit)
 
 -- the node with these keys of which this is the record
 abbrev pub node_view : {K : Type 0} → K → ChronicleView → NodeView K
 node_view keys r = record {
-  start = record { own = r.own; members = r.graph.members; coin = r.graph.coin; balances = r.balances; keys = keys };
+  start = record {
+    own = r.own;
+    members = r.graph.members;
+    coin = r.graph.coin;
+    balances = r.balances;
+    limit = r.limit;
+    keys = keys;
+  };
   history = history_of r.graph.rows r.log;
 }
 

@@ -35,5 +35,5 @@ abbrev pub draft_body : ChronicleView → List (List ℕ) → ℕ → List ℕ �
 draft_body r others time payload = body_bytes r.own (draft_names r others) time payload
 
 -- what is wrong with the row once it is signed
-abbrev pub row_fault : List Row → Row → Option MakeFault
-row_fault G row = option_or (collision_rule G row) (room_rule G)
+abbrev pub row_fault : ChronicleView → Row → Option MakeFault
+row_fault r row = option_or (collision_rule r.graph.rows row) (room_rule r.limit r.graph.rows)

@@ -16,6 +16,7 @@ use Rattle.hg_life.specs.History.{Change, IsMade, IsHistory, replay}
 use Rattle.hg_life.specs.History.Change.{Made}
 use Rattle.hg_life.specs.NodeView.{NodeView, with_changes, node_rows, IsNode}
 use Rattle.hg_life.specs.Calls.{put_answer, put_changes, publish_answer, publish_changes, IsMaking}
+use Rattle.hg_life.specs.Terms.{Terms}
 use Rattle.hg_node.specs.Restore.{restore_answer, restore_changes, restore_verdict}
 use Rattle.hg_node.specs.Replay.{StoredChange, HasBytes, HasLawfulShare, new_node, replay_all, replay_one, stored_of}
 use Rattle.hg_node.specs.Replay.StoredChange.{StoredTook, StoredMade, StoredMarked}
@@ -38,9 +39,10 @@ MarksReplay K = (accepts : K → Accepts) (v : NodeView K) (len : ℕ) (share : 
 
 -- in a graph just the rows that the member might have made there are accepted when they come back
 abbrev pub RestoresAreMakes : Type 0
-RestoresAreMakes = (accepts : Accepts) (n : Stakes) (own : ℕ) (G : List Row) (row : Row) → IsGraph n G → IsChain own G → own < member_count n → Spells (spelling row) row →
-    (restore_verdict accepts n own G row ≡ Accepted (length G) → IsMade accepts own G row)
-    × (IsMade accepts own G row → restore_verdict accepts n own G row ≡ Accepted (length G))
+RestoresAreMakes =
+    (terms : Terms) (n : Stakes) (own : ℕ) (G : List Row) (row : Row) → IsGraph n G → IsChain own G → own < member_count n → Spells (spelling row) row →
+    (restore_verdict terms n own G row ≡ Accepted (length G) → IsMade terms own G row)
+    × (IsMade terms own G row → restore_verdict terms n own G row ≡ Accepted (length G))
 
 -- bytes that are accepted so add one change, the row that they spell, at the next place
 abbrev pub RestoresAddOne : (K : Type 0) → Type 0
@@ -68,7 +70,8 @@ ReplaysAreNodes K = (accepts : K → Accepts) (v w : NodeView K) (stored : Store
 
 -- a history has at most two changes for each row that it leaves
 abbrev pub ChangesAreFew : Type 0
-ChangesAreFew = (accepts : Accepts) (n : Stakes) (c own : ℕ) (h : List Change) → IsHistory accepts n c own h → length h ≤ 2 * length (replay n c h).rows
+ChangesAreFew =
+    (terms : Terms) (n : Stakes) (c own : ℕ) (h : List Change) → IsHistory terms n c own h → length h ≤ 2 * length (replay n c h).rows
 
 -- the bytes of an event are at most 1,345
 abbrev pub SpellingsAreShort : Type 0

@@ -12,10 +12,11 @@ use Rattle.hg_model.specs.Stakes.{Stakes}
 use Rattle.hg_model.specs.Links.{ParentNames}
 use Rattle.hg_life.specs.Reading.{read_event}
 use Rattle.hg_life.specs.Signing.{Accepts}
+use Rattle.hg_life.specs.Terms.{Terms}
 use Rattle.hg_life.specs.Verdict.{member_rule, name_rule, signature_rule, missing_rule, creator_rule, forkers_rule, full_rule, last_name}
 use Rattle.hg_life.specs.History.{Change}
 use Rattle.hg_life.specs.History.Change.{Made}
-use Rattle.hg_life.specs.NodeView.{NodeView, node_rows, with_changes}
+use Rattle.hg_life.specs.NodeView.{NodeView, node_rows, with_changes, terms_of}
 
 -- the name of the self-parent, if there is one
 abbrev pub self_name : ParentNames → Option (List ℕ)
@@ -42,21 +43,23 @@ return_rule accepts n own G row =
     (option_or (next_own_rule own G row) (option_or (missing_rule G row.parents) (creator_rule G row.creator row.parents)))))
 
 -- the answer of the first rule that speaks
-abbrev pub restore_rules : Accepts → Stakes → ℕ → List Row → Row → Option PutAnswer
-restore_rules accepts n own G row = option_or (return_rule accepts n own G row) (option_or (forkers_rule n G row) (full_rule G))
+abbrev pub restore_rules : Terms → Stakes → ℕ → List Row → Row → Option PutAnswer
+restore_rules terms n own G row =
+    option_or (return_rule terms.accepts n own G row) (option_or (forkers_rule n G row) (full_rule terms.limit G))
 
 -- what comes of a row that comes back to the node of the member `own` with the rows G
-abbrev pub restore_verdict : Accepts → Stakes → ℕ → List Row → Row → PutAnswer
-restore_verdict accepts n own G row = unwrap_or (restore_rules accepts n own G row) (Accepted (length G))
+abbrev pub restore_verdict : Terms → Stakes → ℕ → List Row → Row → PutAnswer
+restore_verdict terms n own G row = unwrap_or (restore_rules terms n own G row) (Accepted (length G))
 
 -- by what was read of the bytes
-abbrev pub restore_verdict_of : Accepts → Stakes → ℕ → List Row → Result Row ByteFault → PutAnswer
-restore_verdict_of accepts n own G (Err e) = Refused (fault.Bytes e)
-restore_verdict_of accepts n own G (Ok row) = restore_verdict accepts n own G row
+abbrev pub restore_verdict_of : Terms → Stakes → ℕ → List Row → Result Row ByteFault → PutAnswer
+restore_verdict_of terms n own G (Err e) = Refused (fault.Bytes e)
+restore_verdict_of terms n own G (Ok row) = restore_verdict terms n own G row
 
 -- what comes of bytes that come back to the node
 unfoldable pub restore_answer : {K : Type 0} → (K → Accepts) → NodeView K → List ℕ → PutAnswer
-restore_answer accepts v bytes = restore_verdict_of (accepts v.start.keys) v.start.members v.start.own (node_rows v) (read_event bytes)
+restore_answer accepts v bytes =
+    restore_verdict_of (terms_of accepts v.start) v.start.members v.start.own (node_rows v) (read_event bytes)
 
 abbrev pub restored_by : PutAnswer → Row → List Change
 restored_by (Accepted p) row = Made row ∷ []
@@ -66,7 +69,8 @@ restored_by (Refused f) row = []
 -- by what was read of the bytes
 abbrev pub restored_from : {K : Type 0} → (K → Accepts) → NodeView K → Result Row ByteFault → List Change
 restored_from accepts v (Err e) = []
-restored_from accepts v (Ok row) = restored_by (restore_verdict (accepts v.start.keys) v.start.members v.start.own (node_rows v) row) row
+restored_from accepts v (Ok row) =
+    restored_by (restore_verdict (terms_of accepts v.start) v.start.members v.start.own (node_rows v) row) row
 
 -- the changes that they add: the row that they spell, as one that the node made, where they are accepted
 unfoldable pub restore_changes : {K : Type 0} → (K → Accepts) → NodeView K → List ℕ → List Change

@@ -2,7 +2,8 @@ ghost use Rattle.std.specs.Prelude.{◌≡◌, ◌<◌, ◌≤◌, ◌++◌, ◌
 ghost use Rattle.hg_life.specs.declared.entry.Entry.{Entry};
 ghost use Rattle.hg_model.specs.declared.row.Placed.{Placed};
 ghost use Rattle.hg_model.specs.Graph.{IsGraph};
-ghost use Rattle.hg_life.specs.Verdict.{last_name, row_limit};
+ghost use Rattle.hg_life.specs.Terms.{row_limit};
+ghost use Rattle.hg_life.specs.Verdict.{last_name};
 ghost use Rattle.hg_model.specs.Fame.{mark_at};
 ghost use Rattle.hg_life.specs.Kept.{kept};
 ghost use Rattle.hg_model.specs.Shares.{whole};
@@ -29,6 +30,8 @@ use std::sync::Arc;
 #[derive(Drop)]
 pub struct Chronicle {
     own: Member,
+    /// How many rows it takes at most.
+    limit: usize,
     graph: EventGraph,
     kept: Kept,
     /// It has paid the kept order.
@@ -45,19 +48,29 @@ impl Model for Chronicle {
 
     ghost Value = { ChronicleView };
 
-    ghost view = { λ s. chronicle_view s.own s.ledger.opening s.graph.graph s.log.items s.kept.published.marks };
+    ghost view = { λ s.
+        chronicle_view s.own s.ledger.opening s.limit s.graph.graph s.log.items s.kept.published.marks };
 
-    ghost invariant = { λ s. KeepsAll s.own s.graph.graph s.log.items s.kept.published s.last_own (vec_capacity s.log) s.ledger s.votes };
+    ghost invariant = { λ s.
+        KeepsAll s.own s.graph.graph s.log.items s.kept.published s.last_own (vec_capacity s.log) s.ledger s.votes
+        s.limit };
 }
 
 impl Chronicle {
     /// No rows and no entries: what the member's node begins with.
-    pub fn new(alloc: Global, members: &Members, own: Member) -> Result<Chronicle, Memory>
-        ensures { IfOk result (λ c. c ≡ no_chronicle members.now own) }
+    pub fn new(
+        alloc: Global,
+        members: &Members,
+        own: Member,
+        limit: usize,
+    ) -> Result<Chronicle, Memory>
+        requires { limit ≤ row_limit }
+        ensures { IfOk result (λ c. c ≡ no_chronicle members.now own limit) }
     {
         let stakes = members.stakes(alloc)?;
         Ok(Chronicle {
             own,
+            limit,
             graph: EventGraph::new(alloc, stakes.as_slice(), members.coin())?,
             kept: Kept::new(alloc, members.count()),
             ledger: Ledger::new(alloc, members)?,
@@ -71,6 +84,13 @@ impl Chronicle {
         ensures { result ≡ self.now.own }
     {
         self.own
+    }
+
+    /// How many rows it takes at most.
+    pub fn limit(&self) -> usize
+        ensures { result ≡ self.now.limit }
+    {
+        self.limit
     }
 
     pub fn graph(&self) -> &EventGraph
@@ -116,7 +136,7 @@ impl Chronicle {
     /// One row more, an event with its parents' places, and the entry that tells how it came.
     /// There is memory then for two entries of the log and an effect for each row.
     pub fn add(&mut self, event: Arc<Event>, parents: &[usize], entry: Entry) -> Result<(), Memory>
-        requires limit { length self.old.graph.rows < row_limit }
+        requires limit { length self.old.graph.rows < self.old.limit }
         requires link { StandsOn self.old.graph.rows event.value parents.now }
         requires graph { IsGraph self.old.graph.members (self.old.graph.rows ++ event.value ∷ []) }
         ensures ok { OnOk result (self.new ≡ chronicle_with self.old event.value entry) }

@@ -7,7 +7,6 @@ ghost use Rattle.hg_arrival.specs.Arrival.{AreInside};
 ghost use Rattle.hg_sign.specs.Signed.{IsSigned};
 ghost use Rattle.hg_node.specs.Draft.{creator_fault, draft_fault, draft_places, missing_fault, row_fault};
 
-use crate::ROW_LIMIT;
 use crate::chronicle::Chronicle;
 use hg_arrival::first_by;
 use hg_event::{Event, PAYLOAD_LIMIT};
@@ -167,14 +166,15 @@ pub fn signed_event<V: Signer>(
 }
 
 /// What is wrong with an event that is signed. Takes no memory.
-pub fn row_rule(graph: &EventGraph, event: &Arc<Event>) -> Result<(), MakeFault>
-    ensures { result_err result ≡ row_fault graph.now.graph.rows event.now.value }
+pub fn row_rule(chronicle: &Chronicle, event: &Arc<Event>) -> Result<(), MakeFault>
+    ensures { result_err result ≡ row_fault chronicle.now event.now.value }
 {
+    let graph = chronicle.graph();
     if let Some(place) = graph.place_of(&event.row().name) {
         return Err(MakeFault::Collision(place));
     }
-    if ROW_LIMIT <= graph.len() {
-        return Err(MakeFault::Full(ROW_LIMIT));
+    if chronicle.limit() <= graph.len() {
+        return Err(MakeFault::Full(chronicle.limit()));
     }
     Ok(())
 }

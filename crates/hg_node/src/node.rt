@@ -8,7 +8,8 @@ ghost use Rattle.hg_model.specs.Rounds.{last_round};
 ghost use Rattle.hg_model.specs.Stakes.{member_count};
 ghost use Rattle.hg_life.specs.Spelling.{Spells, spelling};
 ghost use Rattle.hg_model.specs.Graph.{IsGraph};
-ghost use Rattle.hg_life.specs.Verdict.{last_name, row_limit};
+ghost use Rattle.hg_life.specs.Terms.{row_limit};
+ghost use Rattle.hg_life.specs.Verdict.{last_name};
 ghost use Rattle.hg_graph.specs.Held.{first_graph};
 ghost use Rattle.hg_arrival.specs.Arrival.{StandsOn};
 ghost use Rattle.hg_node.specs.Beyond.{beyond_of, tips_of};
@@ -19,9 +20,10 @@ ghost use Rattle.hg_node.specs.Restore.{WouldRestore, after_restore, restore_ans
 ghost use Rattle.hg_node.specs.Puts.{WouldAccept, after_put, is_signed};
 ghost use Rattle.hg_life.specs.declared.answers.PutAnswer.TheVariants.{Accepted};
 ghost use Rattle.hg_model.specs.Fame.{mark_at};
-ghost use Rattle.hg_life.specs.NodeView.{book_kept, node_rows, kept_of, last_closed_of, node_links, log, node_marks, start_of, with_changes, IsNode};
+ghost use Rattle.hg_life.specs.NodeView.{book_kept, node_rows, kept_of, last_closed_of, node_links, log, node_marks, start_of, start_within, with_changes, IsNode};
 ghost use Rattle.hg_life.specs.Calls.{IsMaking, make_draft, publish_answer, publish_changes, put_answer, settle_changes, IsSettled};
 
+use crate::ROW_LIMIT;
 use crate::beyond::{rows_beyond, tip_names};
 use crate::chronicle::Chronicle;
 use crate::draft::{draft_of, row_rule, signed_event};
@@ -64,7 +66,7 @@ impl<V: Signer> Node<V> {
     ghost use Rattle.hg_graph.specs.RowsWithRoom.{found_place};
     ghost use Rattle.hg_node.specs.ChronicleView.{last_own_place, last_own_row};
 
-    /// The node of the member `own`, without rows.
+    /// The node of the member `own`, without rows, which holds at most `ROW_LIMIT`.
     pub fn new(alloc: Global, members: &Members, own: Member, keys: V) -> Result<Node<V>, Memory>
     where
         V: Drop,
@@ -72,8 +74,26 @@ impl<V: Signer> Node<V> {
         ensures start { IfOk result (λ node. node.start ≡ start_of members.now own keys) }
         ensures history { IfOk result (λ node. node.history ≡ []) }
     {
+        Node::with_limit(alloc, members, own, keys, ROW_LIMIT)
+    }
+
+    /// The same with another limit.
+    pub fn with_limit(
+        alloc: Global,
+        members: &Members,
+        own: Member,
+        keys: V,
+        limit: usize,
+    ) -> Result<Node<V>, Memory>
+    where
+        V: Drop,
+        requires own { own < length members.now.entries }
+        requires limit { limit ≤ row_limit }
+        ensures start { IfOk result (λ node. node.start ≡ start_within members.now own keys limit) }
+        ensures history { IfOk result (λ node. node.history ≡ []) }
+    {
         members.is_lawful();
-        let chronicle = Box::new(alloc, Chronicle::new(alloc, members, own)?)?;
+        let chronicle = Box::new(alloc, Chronicle::new(alloc, members, own, limit)?)?;
         Ok(Node {
             alloc,
             keys,
@@ -168,7 +188,7 @@ impl<V: Signer> Node<V> {
         let event = signed_event(
             self.alloc, &self.keys, own, draft.last, others, time, payload,
         )?;
-        match row_rule(self.chronicle.graph(), &event) {
+        match row_rule(&*self.chronicle, &event) {
             Err(fault) => Ok(MakeAnswer::Refused(fault)),
             Ok(()) => {
                 let place = self.chronicle.graph().len();
@@ -459,7 +479,7 @@ fn take(
     bytes: &[u8],
     parents: &[usize],
 ) -> Result<PutAnswer, Memory>
-    requires limit { length chronicle.old.graph.rows < row_limit }
+    requires limit { length chronicle.old.graph.rows < chronicle.old.limit }
     requires spelled { Spells bytes.now (row_of view.now) }
     requires name { name ≡ (row_of view.now).name }
     requires link { StandsOn chronicle.old.graph.rows (row_of view.now) parents.now }
@@ -481,7 +501,7 @@ fn take_back(
     bytes: &[u8],
     parents: &[usize],
 ) -> Result<PutAnswer, Memory>
-    requires limit { length chronicle.old.graph.rows < row_limit }
+    requires limit { length chronicle.old.graph.rows < chronicle.old.limit }
     requires spelled { Spells bytes.now (row_of view.now) }
     requires name { name ≡ (row_of view.now).name }
     requires link { StandsOn chronicle.old.graph.rows (row_of view.now) parents.now }
@@ -509,7 +529,7 @@ fn take_shared(
     event: &Arc<Event>,
     parents: &[usize],
 ) -> Result<PutAnswer, Memory>
-    requires limit { length chronicle.old.graph.rows < row_limit }
+    requires limit { length chronicle.old.graph.rows < chronicle.old.limit }
     requires link { StandsOn chronicle.old.graph.rows event.now.value parents.now }
     requires graph { IsGraph chronicle.old.graph.members (chronicle.old.graph.rows ++ event.now.value ∷ []) }
     ensures answer { IfOk result (λ answer. answer ≡ Accepted (length chronicle.old.graph.rows)) }

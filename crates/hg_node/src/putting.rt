@@ -9,11 +9,9 @@ ghost use Rattle.hg_event.specs.Names.{names_lent};
 ghost use Rattle.hg_node.specs.Puts.{back_rules, put_rules, signed_put_rules};
 ghost use Rattle.hg_node.specs.Restore.{impostor_in, is_same_name, self_name};
 
-use crate::ROW_LIMIT;
 use crate::chronicle::Chronicle;
 use hg_arrival::{parents_of_arrival, parents_of_signed};
 use hg_event::{Event, EventView, ParentsView};
-use hg_graph::EventGraph;
 use hg_life::{Fault, PutAnswer};
 use hg_model::{Member, Name, Parents};
 use hg_sign::Signer;
@@ -35,7 +33,7 @@ pub fn parents_of_put<V: Signer>(
 {
     let graph = chronicle.graph();
     let parents = parents_of_arrival(keys, graph, Some(chronicle.own()), view, name, bytes)?;
-    full_rule(graph)?;
+    full_rule(chronicle)?;
     Ok(parents)
 }
 
@@ -47,7 +45,7 @@ pub fn parents_of_put_event(chronicle: &Chronicle, event: &Arc<Event>) -> Result
 {
     let graph = chronicle.graph();
     let parents = parents_of_signed(graph, Some(chronicle.own()), event)?;
-    full_rule(graph)?;
+    full_rule(chronicle)?;
     Ok(parents)
 }
 
@@ -67,7 +65,7 @@ pub fn parents_of_restore<V: Signer>(
     let graph = chronicle.graph();
     let impostor = impostor_of(chronicle, view);
     let parents = parents_of_arrival(keys, graph, impostor, view, name, bytes)?;
-    full_rule(graph)?;
+    full_rule(chronicle)?;
     Ok(parents)
 }
 
@@ -94,12 +92,12 @@ fn is_self_parent(parents: &Option<ParentsView<'_>>, last: &Option<Name>) -> boo
     }
 }
 
-/// Whether the graph has room for one row more.
-fn full_rule(graph: &EventGraph) -> Result<(), PutAnswer>
-    ensures { result_err result ≡ full_rule graph.now.graph.rows }
+/// Whether the node takes one row more.
+fn full_rule(chronicle: &Chronicle) -> Result<(), PutAnswer>
+    ensures { result_err result ≡ full_rule chronicle.now.limit chronicle.now.graph.rows }
 {
-    if ROW_LIMIT <= graph.len() {
-        return Err(PutAnswer::Refused(Fault::Full(ROW_LIMIT)));
+    if chronicle.limit() <= chronicle.graph().len() {
+        return Err(PutAnswer::Refused(Fault::Full(chronicle.limit())));
     }
     Ok(())
 }

@@ -13,5 +13,6 @@ pub mod GainLaws
 pub mod EndLaws
 pub mod MedianLaws
 pub mod CountLaws
+pub mod FromLaws
 pub mod SweepLaws
 pub mod ListingLaws

@@ -13,6 +13,7 @@ use Rattle.hg_model.specs.Links.{Link, creator, parents, self_parent}
 use Rattle.hg_model.specs.Ancestry.{is_ancestor}
 use Rattle.hg_model.specs.Graph.{IsShaped}
 use Rattle.hg_model.specs.Counts.{CountsMembers}
+use Rattle.hg_model.specs.Shape.{Shape}
 use Rattle.hg_model.proofs.AncestryLaws.{is_ancestor-le, is_ancestor_self, is_ancestor-trans, is_self_ancestor_by, is_self_ancestor_self}
 use Rattle.hg_model.proofs.SightLaws.{is_ancestor-from_self}
 use Rattle.hg_model.proofs.ReachLaws.{has_place_first}
@@ -21,8 +22,9 @@ use Rattle.hg_order.specs.declared.timer.Timer.{Timer}
 use Rattle.hg_order.specs.declared.timer.LineRow.{LineRow}
 use Rattle.hg_order.specs.Counted.{IsBelow}
 use Rattle.hg_order.specs.Timers.{no_timer, timer_at, ticked, timer_by, timer_of, is_gained_by, unticked, ReachAll}
-use Rattle.hg_order.specs.Swept.{has_reached, has_counted, reached, counts_at, end_of, parent_end, AreLast, IsNextFrom, AreLinked, IsLane, AreLanes, IsPast, IsAdvanced, IsLaneFrom, AreAdvanced, AreFew, AreGained, AreGainedBy, IsSwept, AreTimed, ArePast}
+use Rattle.hg_order.specs.Swept.{has_reached, has_counted, reached, counts_at, end_from, end_of, ends_from, lines_from, parent_end, AreLast, GainsFrom, IsNextFrom, AreLinked, IsLane, AreLanes, IsPast, IsAdvanced, IsLaneFrom, AreAdvanced, AreFew, AreGained, AreGainedBy, IsSwept, AreTimed, ArePast}
 use Rattle.hg_order.proofs.BoundLaws.{no_number, counts_end}
+use Rattle.hg_order.proofs.FromLaws.{counted_from, ends_long, from_end, from_gone, from_kept, from_some, gained_from, line_from, lines_long, read_from, set_from, set_line_from}
 use Rattle.hg_order.proofs.MedianLaws.{timer_where}
 
 -- the doubtful law first: how many lines have x as ancestor is one more where a line row gains it that follows its self-parent
@@ -118,6 +120,33 @@ module _ (L : List Link) (top : ℕ) (next : List ℕ) (y : ℕ) (inside : y < t
     | inr other ↦ rw (get_or-set_other ts (y - low) k (record { left = get_or next (creator L y) 0; time = 0 }) no_timer other) (linked k few (omega arith))
   ]
 
+-- the same where the numbers are kept by how far they are from `low` on
+module _ (L : List Link) (low top : ℕ) (next : List ℕ) (y : ℕ) (from : low ≤ y) (inside : y < top) (firsts : (m : ℕ) → IsNextFrom L top m (y + 1) (get_or (ends_from low next) m 0)) where
+  pub firsts_from : creator L y < length next → (m : ℕ) → IsNextFrom L top m y (get_or (ends_from low (set next (creator L y) (y - low + 1))) m 0)
+  firsts_from room m =
+      let at : end_from low (y - low + 1) ≡ y + 1 = from_some low (y - low + 1) (omega arith) ∙ omega arith in
+      rw (set_from low next (creator L y) (y - low + 1), at) (firsts_next L top (ends_from low next) y inside firsts (rw (ends_long low next) room) m)
+
+  pub linked_from : (ts : List Timer) → y - low < length ts → ((k : ℕ) → k < length ts → y + 1 ≤ low + k → IsNextFrom L top (creator L (low + k)) (low + k + 1) (timer_at ts k).left) →
+      (k : ℕ) → k < length ts → y ≤ low + k → IsNextFrom L top (creator L (low + k)) (low + k + 1) (timer_at (set ts (y - low) (record { left = end_from low (get_or next (creator L y) 0); time = 0 })) k).left
+  linked_from ts room linked k few over = rw (sym (read_from low next (creator L y))) (linked_next L top (ends_from low next) y inside firsts low ts from room linked k few over)
+
+cond_cases : (b : Bool) (n : ℕ) → (cond b n 0 ≡ 0) ⊎ (cond b n 0 ≡ n)
+cond_cases true n = inr refl
+cond_cases false n = inl refl
+
+-- a row that follows on a line, or none past the bound, stands in the window
+pub next_window : (L : List Link) (low top m bottom left bound next : ℕ) → IsNextFrom L top m bottom left → low ≤ bottom → next ≡ cond (leb left bound) left 0 → (0 < next → low < next) × (next ≤ top)
+next_window L low top m bottom left bound next is from chosen = elim (cond_cases (leb left bound) left) [
+  | inl none ↦ (let zero_is = chosen ∙ none in (λ some. absurd (omega arith), omega arith))
+  | inr one ↦
+      (let same = chosen ∙ one in
+      let to = is.to in (
+        λ some. (let after = is.from (omega arith) in omega arith),
+        omega arith,
+      ))
+]
+
 -- a time more in a timer
 
 -- the timer at k with this time
@@ -152,10 +181,6 @@ way_shorter top (suc x) zero some inside on = omega arith
 way_shorter top (suc x) (suc y) some inside (inl none) = absurd (omega arith)
 way_shorter top (suc x) (suc y) some inside (inr later) = omega arith
 
-cond_cases : (b : Bool) (n : ℕ) → (cond b n 0 ≡ 0) ⊎ (cond b n 0 ≡ n)
-cond_cases true n = inr refl
-cond_cases false n = inl refl
-
 module _ (L : List Link) (bound : ℕ) (last : List (List ℕ)) (low need time start : ℕ) (old : List Timer) where
   pub advanced_none : (above : ℕ) → AreLinked L low old → IsLaneFrom L last low old start above → IsAdvanced L bound last low need time (creator L (start - 1)) start start above old old
   advanced_none above linked lane = record {
@@ -187,7 +212,7 @@ module _ (L : List Link) (bound : ℕ) (last : List (List ℕ)) (low need time s
     at_row : low + (here - 1 - low) ≡ here - 1
     at_row = (let there = row_there in let from = row_from in omega arith)
 
-    step_facts : IsNextFrom L (low + length now) m here (timer_at now (here - 1 - low)).left
+    pub step_facts : IsNextFrom L (low + length now) m here (timer_at now (here - 1 - low)).left
     step_facts =
         let there = row_there in
         let from = row_from in
@@ -303,6 +328,19 @@ module _ (L : List Link) (least : List ℕ) (last : List (List ℕ)) (low need t
       before k is (inl none) = absurd (omega arith)
       before k is (inr later) = omega arith
 
+-- the same where the lanes' rows are kept by how far they are from `low` on
+module _ (L : List Link) (least : List ℕ) (last : List (List ℕ)) (low need time : ℕ) (start next above : List ℕ) (old now : List Timer)
+    (a : AreAdvanced L least last low need time (ends_from low start) (ends_from low next) above old now)
+    (m : ℕ) (same : get_or next m 0 ≡ get_or start m 0) (room : m < length next) (room_above : m < length above) (there : 0 < end_from low (get_or next m 0)) where
+  pub lanes_from : (q more : ℕ) (new : List Timer) → IsAdvanced L (get_or least m 0) last low need time (creator L (end_from low (get_or next m 0) - 1)) (end_from low (get_or next m 0)) q more now new →
+      AreAdvanced L least last low need time (ends_from low start) (ends_from low (set next m (q - low))) (set above m more) old new
+  lanes_from q more new step =
+      let here = read_from low next m in
+      let back : end_from low (q - low) ≡ q = from_end low q step.lane.from in
+      let alike = here ∙ (ap (end_from low) same ∙ sym (read_from low start m)) in
+      rw (set_from low next m (q - low), back)
+      (lanes_next L least last low need time (ends_from low start) (ends_from low next) above old now a m alike (rw (ends_long low next) room) room_above (rw here there) q more new (rw (sym here) at step))
+
 pub few_next : (above : List ℕ) (m v need : ℕ) → m < length above → v < need → ((j : ℕ) → j < m → get_or above j 0 < need) → (j : ℕ) → j < m + 1 → get_or (set above m v) j 0 < need
 few_next above m v need room less few j h = elim (cases_eq j m) [
   | inl here ↦ rw (here, get_or-set_same above m v 0 room) less
@@ -344,15 +382,15 @@ module _ (n : Stakes) (L : List Link) (s : IsShaped n L) (z : ℕ) (counts : Lis
       rest = λ m over. past m (rw c.wide over);
     }
 
-  -- the counts of row z in the place of its line's
-  module _ (inside : z < length L) (to : List ℕ) (copied : (m : ℕ) → m < length counts → get_or to m 0 ≡ get_or counts m 0) where
-    copied_at : (x : ℕ) → x < length L → get_or to (creator L x) 0 ≡ get_or counts (creator L x) 0
+  -- the counts of row z from `low` on in the place of its line's
+  module _ (inside : z < length L) (low : ℕ) (to : List ℕ) (copied : (m : ℕ) → m < length counts → get_or to m 0 ≡ end_from low (get_or counts m 0 - low)) where
+    copied_at : (x : ℕ) → x < length L → get_or to (creator L x) 0 ≡ end_from low (get_or counts (creator L x) 0 - low)
     copied_at x here = copied (creator L x) (rw c.wide (s.members x here))
 
-    pub counted_now : (x : ℕ) → x < length L → has_counted L x to ≡ is_ancestor L z x
-    counted_now x here = ap (ltb x) (copied_at x here) ∙ c.told x here
+    pub counted_now : (x : ℕ) → low ≤ x → x < length L → has_counted L x to ≡ is_ancestor L z x
+    counted_now x from here = ap (ltb x) (copied_at x here) ∙ (counted_from low (get_or counts (creator L x) 0) x from ∙ c.told x here)
 
-    end_now : get_or to (creator L z) 0 ≡ z + 1
+    end_now : get_or to (creator L z) 0 ≡ end_from low (z + 1 - low)
     end_now =
         let count = get_or counts (creator L z) 0 in
         let over : z < count = ltb-true z count (c.told z inside ∙ is_ancestor_self L s.earlier z) in
@@ -362,11 +400,21 @@ module _ (n : Stakes) (L : List Link) (s : IsShaped n L) (z : ℕ) (counts : Lis
         let below : ltb (count - 1) count ≡ true = lt-ltb (count - 1) count (omega arith) in
         let up : is_ancestor L z (count - 1) ≡ true = sym (c.told (count - 1) here) ∙ rw ends.1 below in
         let le = is_ancestor-le L s.earlier z (count - 1) up in
-        copied_at z inside ∙ omega arith
+        let count_is : count ≡ z + 1 = omega arith in
+        copied_at z inside ∙ ap (λ (k : ℕ). end_from low (k - low)) count_is
 
-    pub last_next : (low : ℕ) (last : List (List ℕ)) → creator L z < length last → AreLast L low last → AreLast L low (set last (creator L z) to)
-    last_next low last room ls m x from here = elim (cases_eq m (creator L z)) [
-      | inl same ↦ rw (same, get_or-set_same last (creator L z) to [] room, end_now, reached_at L s.earlier z x) (counted_now x here)
+    -- a row below `low` has no row from there on as ancestor
+    end_reached : (x : ℕ) → low ≤ x → has_reached L x (end_from low (z + 1 - low)) ≡ is_ancestor L z x
+    end_reached x from = elim (cases_lt z low) [
+      | inl under ↦
+          (let no : is_ancestor L z x ≡ false = false_from_ne_true (is_ancestor L z x) (λ up. let le = is_ancestor-le L s.earlier z x up in absurd (omega arith)) in
+          ap (has_reached L x) (from_gone low (z + 1) (omega arith)) ∙ sym no)
+      | inr over ↦ ap (has_reached L x) (from_kept low (z + 1) (omega arith)) ∙ reached_at L s.earlier z x
+    ]
+
+    pub last_next : (last : List (List ℕ)) → creator L z < length last → AreLast L low last → AreLast L low (set last (creator L z) to)
+    last_next last room ls m x from here = elim (cases_eq m (creator L z)) [
+      | inl same ↦ rw (same, get_or-set_same last (creator L z) to [] room, end_now, end_reached x from) (counted_now x from here)
       | inr other ↦ rw (get_or-set_other last (creator L z) m to [] other) (ls m x from here)
     ]
 
@@ -383,12 +431,36 @@ module _ (n : Stakes) (L : List Link) (s : IsShaped n L) (low : ℕ) (last : Lis
       AreGainedBy n L low z next old new top
   line_gains next old new top each past most = gained_by n L s z counts c low last ls follows next old new top (rw (read, by) at each) past most
 
-  module _ (to : List ℕ) (copied : (j : ℕ) → j < length counts → get_or to j 0 ≡ get_or counts j 0) where
+  module _ (to : List ℕ) (copied : (j : ℕ) → j < length counts → get_or to j 0 ≡ end_from low (get_or counts j 0 - low)) where
     pub line_on : (x : ℕ) → low ≤ x → x < length L → reached L (set last m to) x ≡ reached L last x + cond (is_gained_by L z x) 1 0
-    line_on x from inside = rw by (reached_next L s.earlier low last ls z follows x from inside to room_by (counted_now n L s z counts c here to copied x inside))
+    line_on x from inside = rw by (reached_next L s.earlier low last ls z follows x from inside to room_by (counted_now n L s z counts c here low to copied x from inside))
 
     pub line_last : AreLast L low (set last m to)
-    line_last = rw by (last_next n L s z counts c here to copied low last room_by ls)
+    line_last = rw by (last_next n L s z counts c here low to copied last room_by ls)
+
+-- the same where all but the counts are from `low` on
+pub record Follows (s : Shape) (low z : ℕ) (lines with_row : List (List ℕ)) (next old new : List ℕ) (top : ℕ) : Type 0 where
+  pub on : (x : ℕ) → low ≤ x → x < length s.links → reached s.links (lines_from low with_row) x ≡ reached s.links (lines_from low lines) x + cond (is_gained_by s.links z x) 1 0
+  pub last : AreLast s.links low (lines_from low with_row)
+  pub gained : AreGainedBy s.members s.links low z (ends_from low next) old new top
+
+pub follows_from : (s : Shape) → IsShaped s.members s.links → (low : ℕ) (lines : List (List ℕ)) → AreLast s.links low (lines_from low lines) → (z : ℕ) → z < length s.links → (m : ℕ) → m ≡ creator s.links z →
+    m < length lines → (before after : List ℕ) → before ≡ counts_at lines m → (far : ℕ) → get_or before m 0 ≡ far → end_from low far ≡ parent_end low (self_parent s.links z) →
+    (next old new : List ℕ) (top : ℕ) → GainsFrom s z low before after next old new top → Follows s low z lines (set lines m after) next old new top
+follows_from s shaped low lines ls z here m by room before after read far at ends next old new top gains =
+    let all = lines_from low lines in
+    let to = ends_from low after in
+    let kept : m < length all = rw (lines_long low lines) room in
+    let line : ends_from low before ≡ counts_at all m = ap (ends_from low) read ∙ sym (line_from low lines m) in
+    let follow : get_or (ends_from low before) m 0 ≡ parent_end low (self_parent s.links z) = read_from low before m ∙ (ap (end_from low) at ∙ ends) in
+    let counts = gains.counts in
+    let copied : (j : ℕ) → j < length counts → get_or to j 0 ≡ end_from low (get_or counts j 0 - low) = λ j inside. read_from low after j ∙ ap (end_from low) (gains.line j inside) in
+    let done = set_line_from low lines m after in
+    record {
+      on = λ x from inside. rw done (line_on s.members s.links shaped low all ls z here m by kept (ends_from low before) line follow counts gains.are to copied x from inside);
+      last = rw done (line_last s.members s.links shaped low all ls z here m by kept (ends_from low before) line follow counts gains.are to copied);
+      gained = line_gains s.members s.links shaped low all ls z here m by kept (ends_from low before) line follow counts gains.are (ends_from low next) old new top (gained_from low before counts next old new gains.gained) gains.rest gains.most;
+    }
 
 -- what line rows leave of timers
 

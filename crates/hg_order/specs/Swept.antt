@@ -1,6 +1,7 @@
 -- Medians by a sweep: the line rows in the order of their times, and of each member one row, the next whose time is to be
--- found, with how many lines have it as ancestor. Of each line it keeps the counts of the last row that it went through
-use Rattle.std.specs.Prelude.{ℕ, ◌≡◌, ◌<◌, ◌≤◌, ◌+◌, ◌-◌, ◌⊎◌, Bool, true, cond, ◌&&◌, nat_le, nat_lt, List, [], ◌∷◌, ◌++◌, length, count_by, replicate, slice_index, slice_index_or}
+-- found, with how many lines have it as ancestor. Of each line it keeps the counts of the last row that it went through. Both
+-- are kept by how far they are from the lowest row of the round on
+use Rattle.std.specs.Prelude.{ℕ, ◌≡◌, ◌<◌, ◌≤◌, ◌+◌, ◌-◌, ◌⊎◌, Bool, true, cond, ◌&&◌, nat_le, nat_lt, List, [], ◌∷◌, ◌++◌, zero, suc, length, count_by, map, replicate, slice_index, slice_index_or}
 use Rattle.hg_model.specs.Stakes.{Stakes, member_count}
 use Rattle.hg_model.specs.Links.{Link, creator}
 use Rattle.hg_model.specs.Ancestry.{is_ancestor}
@@ -9,8 +10,24 @@ use Rattle.hg_order.specs.declared.timer.LineRow.{LineRow}
 use Rattle.hg_order.specs.declared.sweep.Lane.{Lane}
 use Rattle.hg_order.specs.declared.sweep.Lanes.{Lanes}
 use Rattle.hg_model.specs.Shape.{Shape}
+use Rattle.hg_model.specs.Counts.{CountsMembersIn}
 use Rattle.hg_order.specs.Counted.{IsBelow}
 use Rattle.hg_order.specs.Timers.{timer_at, timer_of, is_gained_by, unticked}
+
+-- one more than a place, by how far that is from `low` on, or 0
+abbrev pub end_from : ℕ → ℕ → ℕ
+end_from low zero = 0
+end_from low (suc k) = low + suc k
+
+abbrev pub ends_from : ℕ → List ℕ → List ℕ
+ends_from low counts = map (end_from low) counts
+
+abbrev pub lines_from : ℕ → List (List ℕ) → List (List ℕ)
+lines_from low last = map (ends_from low) last
+
+-- the first of these numbers are those of the others from `low` on
+abbrev pub AreFrom : ℕ → List ℕ → List ℕ → Type 0
+AreFrom low counts to = (m : ℕ) → m < length counts → slice_index to m ≡ slice_index counts m - low
 
 -- the row just below `end` has x as ancestor; below 0 there is none
 abbrev pub has_reached : List Link → ℕ → ℕ → Bool
@@ -49,6 +66,20 @@ abbrev pub AreGained : List ℕ → List ℕ → List ℕ → List ℕ → List 
 AreGained before counts next old new =
     (m : ℕ) → m < length counts → slice_index new m ≡ slice_index old m + cond (is_next_gained (slice_index before m) (slice_index counts m) (slice_index next m)) 1 0
 
+-- the same where all but `counts` are from `low` on
+abbrev pub AreGainedFrom : ℕ → List ℕ → List ℕ → List ℕ → List ℕ → List ℕ → Type 0
+AreGainedFrom low before counts next old new =
+    (m : ℕ) → m < length counts → slice_index new m ≡ slice_index old m + cond (is_next_gained (slice_index before m) (slice_index counts m - low) (slice_index next m)) 1 0
+
+-- row x follows on a line: the lanes count what it gains, `top` is the greatest of the numbers then, and the line has its counts
+pub record GainsFrom (s : Shape) (x low : ℕ) (before after next old new : List ℕ) (top : ℕ) : Type 0 where
+  pub counts : List ℕ
+  pub are : CountsMembersIn s x counts
+  pub gained : AreGainedFrom low before counts next old new
+  pub line : AreFrom low counts after
+  pub rest : (m : ℕ) → length counts ≤ m → slice_index new m ≡ slice_index old m
+  pub most : (m : ℕ) → m < length counts → slice_index new m ≤ top
+
 -- the lane has come past row x
 abbrev pub IsPast : ℕ → ℕ → Type 0
 IsPast next x = (next ≡ 0) ⊎ (x + 1 < next)
@@ -80,7 +111,7 @@ abbrev pub AreLanes : List Link → List (List ℕ) → ℕ → ℕ → List ℕ
 AreLanes L last low top next above = (m : ℕ) → IsLane L last low top m (slice_index next m) (slice_index above m)
 
 abbrev pub AreLanesOver : Shape → ℕ → Lanes → List Timer → Type 0
-AreLanesOver s low lanes ts = AreLanes s.links lanes.last.items low (low + length ts) lanes.next lanes.above
+AreLanesOver s low lanes ts = AreLanes s.links (lines_from low lanes.last.items) low (low + length ts) (ends_from low lanes.next) lanes.above
 
 -- of so many members: no line has a row, and no lane
 pub record AreClear (members : ℕ) (lanes : Lanes) : Type 0 where
@@ -125,7 +156,7 @@ pub record AreAdvanced (L : List Link) (least : List ℕ) (last : List (List ℕ
 
 abbrev pub AdvancesLanes : Shape → List ℕ → ℕ → ℕ → ℕ → Lanes → Lanes → List Timer → List Timer → Type 0
 AdvancesLanes s least low need when start lanes old new =
-    AreAdvanced s.links least lanes.last.items low need when start.next lanes.next lanes.above old new
+    AreAdvanced s.links least (lines_from low lanes.last.items) low need when (ends_from low start.next) (ends_from low lanes.next) lanes.above old new
 
 abbrev pub AreFew : ℕ → List ℕ → Type 0
 AreFew need above = (m : ℕ) → slice_index above m < need
@@ -148,7 +179,7 @@ pub record IsSwept (L : List Link) (least : List ℕ) (low need : ℕ) (line_row
       timer_of L (low + k) (unticked need) line_rows ≡ record { left = 0; time = (timer_at ts k).time }
 
 abbrev pub IsSweptOver : Shape → List ℕ → ℕ → ℕ → List LineRow → Lanes → List Timer → Type 0
-IsSweptOver s least low need line_rows lanes ts = IsSwept s.links least low need line_rows lanes.last.items lanes.next lanes.above ts
+IsSweptOver s least low need line_rows lanes ts = IsSwept s.links least low need line_rows (lines_from low lanes.last.items) (ends_from low lanes.next) lanes.above ts
 
 abbrev pub IsSweptBySome : Shape → List ℕ → ℕ → ℕ → Lanes → List Timer → Type 0
 IsSweptBySome s least low need lanes ts = (line_rows : List LineRow) × IsSweptOver s least low need line_rows lanes ts

@@ -23,7 +23,7 @@ use Rattle.hg_life.specs.Pay.{book_of}
 use Rattle.hg_model.specs.Shares.{whole}
 use Rattle.hg_life.specs.Signing.{accepts_by}
 use Rattle.hg_life.specs.History.{Change, State, replay}
-use Rattle.hg_life.specs.NodeView.{NodeView, Start, IsNode, with_changes}
+use Rattle.hg_life.specs.NodeView.{NodeView, Start, IsNode, with_changes, terms_of}
 use Rattle.hg_life.specs.Calls.{IsSettled}
 use Rattle.hg_history.proofs.NodeLaws.{settles_all}
 use Rattle.hg_history.proofs.SoundLaws.{moment, sound}
@@ -70,7 +70,7 @@ kept_shown : (members : MemberList) (m : ℕ) (v : NodeView Secrets) → v.start
     shown_order (kept_block members m v) ≡ order_after (stakes_of members) members.coin v.history
 kept_shown members m v start node =
     let s = replay v.start.members v.start.coin v.history in
-    let linked : links s.rows ≡ s.links = sym (sound (accepts_by v.start.keys) v.start.members v.start.coin v.start.own v.history node.coin node.history).linked in
+    let linked : links s.rows ≡ s.links = sym (sound (terms_of accepts_by v.start) v.start.members v.start.coin v.start.own v.history node.coin node.history).linked in
     marked_shown members m s.rows s.marks
     ∙ (ap (λ (L : List Link). map (named_in s.rows) (ordered (stakes_of members) s.rows L s.marks)) linked
     ∙ ap (λ (b : Start Secrets). let t : State = replay b.members b.coin v.history in map (named_in t.rows) (ordered (stakes_of members) t.rows t.links t.marks)) start)
@@ -84,7 +84,8 @@ node_before v u start grows node =
       few_members = whole.few_members;
       coin = whole.coin;
       balances = whole.balances;
-      history = moment (accepts_by v.start.keys) v.start.members v.start.coin v.start.own v.history grows.0 whole.history;
+      limit = whole.limit;
+      history = moment (terms_of accepts_by v.start) v.start.members v.start.coin v.start.own v.history grows.0 whole.history;
     }
 
 -- steps leave how many workers each node has

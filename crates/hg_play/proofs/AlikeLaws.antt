@@ -17,7 +17,7 @@ use Rattle.hg_life.specs.Spelling.{body_bytes, spelling}
 use Rattle.hg_life.specs.Verdict.{last_name, made_row, making, parents_on, row_verdict, verdict}
 use Rattle.hg_life.specs.History.{Change, State, step, with_marks, with_row}
 use Rattle.hg_life.specs.History.Change.{Took, Made, Marked}
-use Rattle.hg_life.specs.NodeView.{NodeView, Start, node_rows, node_state, with_changes}
+use Rattle.hg_life.specs.NodeView.{NodeView, Start, node_rows, node_state, with_changes, terms_of}
 use Rattle.hg_life.specs.Calls.{made_by, make_answer, make_body, make_changes, put_answer, put_changes, taken_by, taken_from}
 use Rattle.hg_history.proofs.StateLaws.{replay-append}
 use Rattle.hg_gossip.specs.declared.gossip.Taken.{Taken}
@@ -63,12 +63,12 @@ same_of f v u alike = ap₂ f alike.start alike.rows
 taken_same : (v u : NodeView Secrets) (read : Result Row ByteFault) → AreAlike v u → taken_from accepts_by v read ≡ taken_from accepts_by u read
 taken_same v u (Err e) alike = refl
 taken_same v u (Ok row) alike =
-    ap (λ (a : PutAnswer). taken_by a row) (same_of (λ s G. row_verdict (accepts_by s.keys) s.members s.own G row) v u alike)
+    ap (λ (a : PutAnswer). taken_by a row) (same_of (λ s G. row_verdict (terms_of accepts_by s) s.members s.own G row) v u alike)
 
 put_alike : (v u : NodeView Secrets) (bytes : List ℕ) → AreAlike v u → PutAlike v u bytes
 unfolding put_answer put_changes
 put_alike v u bytes alike = (
-  same_of (λ s G. verdict (accepts_by s.keys) s.members s.own G bytes) v u alike,
+  same_of (λ s G. verdict (terms_of accepts_by s) s.members s.own G bytes) v u alike,
   changed_alike v u (put_changes accepts_by v bytes) (put_changes accepts_by u bytes) alike (taken_same v u (read_event bytes) alike),
 )
 
@@ -79,7 +79,7 @@ signed s G others time payload = signature_by s.keys s.own (body_bytes s.own (pa
 made_alike : (v u : NodeView Secrets) (others : List (List ℕ)) (time : ℕ) (payload : List ℕ) → AreAlike v u → MadeAlike v u others time payload
 unfolding make_answer make_body make_changes
 made_alike v u others time payload alike =
-    let answer = λ (s : Start Secrets) (G : List Row). making s.own G others time payload (signed s G others time payload) in (
+    let answer = λ (s : Start Secrets) (G : List Row). making s.limit s.own G others time payload (signed s G others time payload) in (
       same_of answer v u alike,
       changed_alike v u (make_changes v others time payload (own_signature v others time payload)) (make_changes u others time payload (own_signature u others time payload)) alike
           (same_of (λ s G. made_by (answer s G) (made_row s.own G others time payload (signed s G others time payload))) v u alike),

@@ -12,7 +12,7 @@ use Rattle.hg_model.specs.Forks.{forkers}
 use Rattle.hg_model.specs.Rounds.{last_round}
 use Rattle.hg_life.specs.Pay.{Book, book_of}
 use Rattle.hg_outcome.specs.Ledger.{block_of, marked_block, order_lines}
-use Rattle.hg_life.specs.NodeView.{NodeView, Start, node_rows, node_links, node_marks, kept_of, book_kept, last_closed_of, IsNode}
+use Rattle.hg_life.specs.NodeView.{NodeView, Start, node_rows, node_links, node_marks, kept_of, book_kept, last_closed_of, IsNode, terms_of}
 use Rattle.hg_life.specs.Calls.{IsSettled}
 use Rattle.hg_life.specs.Signing.{Accepts}
 use Rattle.hg_history.proofs.SoundLaws.{sound}
@@ -30,7 +30,7 @@ block_is {K} accepts members v x lines events forking greatest closed balances s
     let n = stakes_of members in
     let G = node_rows v in
     let marks = node_marks v in
-    let linked : node_links v ≡ links G = (sound (accepts v.start.keys) v.start.members v.start.coin v.start.own v.history node.coin node.history).linked in
+    let linked : node_links v ≡ links G = (sound (terms_of accepts v.start) v.start.members v.start.coin v.start.own v.history node.coin node.history).linked in
     let order : kept_of v ≡ ordered n G (links G) marks = ap₂ (λ (s : Start K) (L : List Link). ordered s.members G L marks) start linked in
     let the_book : book_kept v ≡ book_of (balances_of members) G (ordered n G (links G) marks) =
     ap (λ (s : Start K). book_of s.balances G (kept_of v)) start ∙ ap (book_of (balances_of members) G) order in

@@ -10,7 +10,7 @@ use Rattle.hg_life.specs.Signing.{Accepts, accepts_by}
 use Rattle.hg_model.specs.Held.{lacking, is_held}
 use Rattle.hg_model.specs.Graph.{HasDistinctNames, name_at}
 use Rattle.hg_life.specs.Spelling.{Spells, body_of, spelling}
-use Rattle.hg_life.specs.NodeView.{NodeView, Start, IsNode, node_rows}
+use Rattle.hg_life.specs.NodeView.{NodeView, Start, IsNode, node_rows, terms_of}
 use Rattle.hg_model.proofs.LinkLaws.{creator-links, length-links}
 use Rattle.hg_history.specs.Laws.{IsEvent}
 use Rattle.hg_history.proofs.SoundLaws.{sound}
@@ -53,7 +53,7 @@ start_at n c keys places each m p low =
 pub handed : (places : List (SharedNode Secrets)) (x : ℕ) (p : SharedNode Secrets) (v : NodeView Secrets) → AreOfOneList (begun places) → x < length places → p ≡ get_or places x p → v.start ≡ p.start.start →
     IsNode accepts_by v → AreHanded places (node_rows v)
 handed places x p v one low p_is start node =
-    let s = sound (accepts_by v.start.keys) v.start.members v.start.coin v.start.own v.history node.coin node.history in
+    let s = sound (terms_of accepts_by v.start) v.start.members v.start.coin v.start.own v.history node.coin node.history in
     let mine = start_at one.0 one.1 one.2 places one.3.each x p low in
     let from : v.start ≡ (get_or places x p).start.start = start ∙ ap (λ (q : SharedNode Secrets). q.start.start) p_is in
     let own : AreSignedFor accepts_by v.start (node_rows v) =

@@ -6,8 +6,8 @@ use Rattle.hg_model.specs.Held.{lacking}
 use Rattle.hg_life.specs.History.{Change}
 use Rattle.hg_model.specs.Orders.{IsPrefix}
 use Rattle.hg_life.specs.Signing.{accepts_by}
-use Rattle.hg_life.specs.Verdict.{row_limit}
-use Rattle.hg_life.specs.NodeView.{NodeView, node_rows}
+use Rattle.hg_life.specs.Terms.{row_limit}
+use Rattle.hg_life.specs.NodeView.{NodeView, node_rows, terms_of}
 use Rattle.hg_history.proofs.SoundLaws.{sound}
 use Rattle.hg_history.proofs.StateLaws.{prefix_same, rows_grow}
 use Rattle.hg_gossip.specs.Handing.{AreKnown, HeardView, Knows, LacksOf}
@@ -64,7 +64,7 @@ module _ (v : PartyView Secrets) (are : AreNodes v.places v.seats) where
       let u : NodeView Secrets = node_seen p s in
       let node = (are.seated.each m (some_of v.places m inside) (some_of v.seats m low) inside).node in
       subst (λ (n : NodeView Secrets). length (node_rows n) ≤ row_limit) (sym (node_by v.places v.seats m (some_of v.places m inside) (some_of v.seats m low) inside low))
-      (sound (accepts_by u.start.keys) u.start.members u.start.coin u.start.own u.history node.coin node.history).few
+      (let few = (sound (terms_of accepts_by u.start) u.start.members u.start.coin u.start.own u.history node.coin node.history).few in let limit = node.limit in omega arith)
 
   -- it is that of each world whose nodes they are, but for marks
   pub node_agrees : (w : WorldView) (m : ℕ) → AreSeen v.places v.seats w → m < length v.seats → AreAlike (node_at w m) (nth_node (nodes_seen v) m)

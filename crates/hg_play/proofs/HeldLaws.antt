@@ -12,13 +12,14 @@ use Rattle.hg_life.specs.declared.answers.PutAnswer.TheVariants.{Accepted, Known
 use Rattle.hg_model.specs.Graph.{creator_at}
 use Rattle.hg_model.specs.Links.{ParentNames, place_of}
 use Rattle.hg_model.specs.Orders.{IsPrefix}
-use Rattle.hg_life.specs.Signing.{Accepts, accepts_by}
+use Rattle.hg_life.specs.Signing.{accepts_by}
 use Rattle.hg_life.specs.Spelling.{Spells, body_of, spelling}
 use Rattle.hg_model.specs.Stakes.{Stakes, member_count, total}
-use Rattle.hg_life.specs.Verdict.{arrival_rule, creator_rule, first_by, first_missing, forkers_rule, forking_with, full_rule, has_bytes, impostor_rule, member_rule, missing_rule, name_rule, row_limit, row_verdict, signature_rule, verdict_of}
+use Rattle.hg_life.specs.Verdict.{arrival_rule, creator_rule, first_by, first_missing, forkers_rule, forking_with, full_rule, has_bytes, impostor_rule, member_rule, missing_rule, name_rule, row_verdict, signature_rule, verdict_of}
 use Rattle.hg_model.specs.Held.{is_held}
 use Rattle.hg_life.specs.Calls.{put_answer, put_changes}
-use Rattle.hg_life.specs.NodeView.{NodeView, node_rows}
+use Rattle.hg_life.specs.NodeView.{NodeView, node_rows, terms_of}
+use Rattle.hg_life.specs.Terms.{Terms}
 use Rattle.hg_event.proofs.Spells.{Spells-read_event}
 use Rattle.hg_history.proofs.StateLaws.{prefix_more, prefix_same, rows_grow}
 use Rattle.hg_gossip.specs.declared.gossip.Taken.{Taken}
@@ -85,25 +86,25 @@ answer_known (Some (Known q)) n p none is = none
 answer_known (Some (Refused f)) n p none is = absurd cc
 
 -- a row of which the answer is that it is known is held
-row_known : (accepts : Accepts) (n : Stakes) (own : ℕ) (G : List Row) (row : Row) (p : ℕ) → row_verdict accepts n own G row ≡ Known p → is_held G row.name ≡ true
-row_known accepts n own G row p is = elim (cases_Bool (is_held G row.name)) [
+row_known : (terms : Terms) (n : Stakes) (own : ℕ) (G : List Row) (row : Row) (p : ℕ) → row_verdict terms n own G row ≡ Known p → is_held G row.name ≡ true
+row_known terms n own G row p is = elim (cases_Bool (is_held G row.name)) [
   | inl held ↦ held
-  | inr other ↦ absurd (true≢false (answer_known (option_or (arrival_rule accepts n own G row) (option_or (forkers_rule n G row) (full_rule G))) (length G) p
-      (or_known (arrival_rule accepts n own G row) (option_or (forkers_rule n G row) (full_rule G))
+  | inr other ↦ absurd (true≢false (answer_known (option_or (arrival_rule terms.accepts n own G row) (option_or (forkers_rule n G row) (full_rule terms.limit G))) (length G) p
+      (or_known (arrival_rule terms.accepts n own G row) (option_or (forkers_rule n G row) (full_rule terms.limit G))
       (or_known (member_rule n row) _ (refused_if (nat_le (member_count n) row.creator) (fault.Member row.creator))
       (or_known (name_rule G row) _ (name_known (is_held G row.name) (has_bytes G (place_of G row.name) (spelling row)) (place_of G row.name) other)
-      (or_known (signature_rule accepts row) _ (refused_unless (accepts row.creator (body_of row) row.sig) fault.Signature)
+      (or_known (signature_rule terms.accepts row) _ (refused_unless (terms.accepts row.creator (body_of row) row.sig) fault.Signature)
       (or_known (impostor_rule own row) _ (refused_if (row.creator == own) fault.Impostor)
       (or_known (missing_rule G row.parents) (creator_rule G row.creator row.parents) (missing_known G row.parents) (creator_known G row.creator row.parents))))))
-      (or_known (forkers_rule n G row) (full_rule G) (refused_if (nat_le (total n) (3 * forking_with n G row)) (fault.TooManyForkers (forking_with n G row)))
-      (refused_if (nat_le row_limit (length G)) (fault.Full row_limit)))) is))
+      (or_known (forkers_rule n G row) (full_rule terms.limit G) (refused_if (nat_le (total n) (3 * forking_with n G row)) (fault.TooManyForkers (forking_with n G row)))
+      (refused_if (nat_le terms.limit (length G)) (fault.Full terms.limit)))) is))
 ]
 
 known_held : (v : NodeView Secrets) (row : Row) (p : ℕ) → Spells (spelling row) row → put_answer accepts_by v (spelling row) ≡ Known p → is_held (node_rows v) row.name ≡ true
 unfolding put_answer
 known_held v row p spells is =
-    row_known (accepts_by v.start.keys) v.start.members v.start.own (node_rows v) row p
-    (sym (ap (λ (read : Result Row ByteFault). verdict_of (accepts_by v.start.keys) v.start.members v.start.own (node_rows v) read) (Spells-read_event (spelling row) row spells)) ∙ is)
+    row_known (terms_of accepts_by v.start) v.start.members v.start.own (node_rows v) row p
+    (sym (ap (λ (read : Result Row ByteFault). verdict_of (terms_of accepts_by v.start) v.start.members v.start.own (node_rows v) read) (Spells-read_event (spelling row) row spells)) ∙ is)
 
 -- one row more
 

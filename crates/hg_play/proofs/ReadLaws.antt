@@ -110,7 +110,7 @@ module _ (v0 v1 v2 : PartyView Secrets) (known : List (List HeardView)) (x y : �
             (ap (λ (k : ℕ). heard.len + k) (sym (length-map parcel.events.items (λ e. e.value))))
 
         -- so many rows are counted
-        pub handed_few : heard.len + length parcel.events.items ≤ 16384
+        pub handed_few : heard.len + length parcel.events.items ≤ 1048576
         handed_few = omega (arith, behind_many, few_rows v2 second.nodes y (low_second y low_y), ap (λ (H : List Row). length H) (rows_here v2 second.nodes y (low_second y low_y)))
 
         pub is_handed : {A : Type 0} (refused : List (Arc Row A)) (all : Handed) → AreLacked heard.refused (nth_node (nodes_seen v1) x) refused → rows_of all.events.items ≡ rows_of refused ++ rows_of parcel.events.items →

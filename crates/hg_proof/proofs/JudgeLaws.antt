@@ -146,5 +146,5 @@ shown_one accepts n c bytes one other first second =
     same_given one other (sym (shown_accepted accepts n c bytes one first) ∙ shown_accepted accepts n c bytes other second)
 
 pub shown_safe : ShownIsSafe
-shown_safe accepts keys n c run bytes shown is shows few apart k h at =
-    rw shows.whole (further_safe accepts n c run shown.rows is (record { graph = shows.graph; events = λ x row here. (shows.signed x row here).spelled }) few apart k h at)
+shown_safe terms keys n c run bytes shown is shows few apart k h at =
+    rw shows.whole (further_safe terms n c run shown.rows is (record { graph = shows.graph; events = λ x row here. (shows.signed x row here).spelled }) few apart k h at)

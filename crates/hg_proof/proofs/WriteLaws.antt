@@ -8,7 +8,7 @@ use Rattle.hg_model.specs.declared.row.Row.{Row}
 use Rattle.hg_model.specs.declared.row.Placed.{Placed}
 use Rattle.hg_model.specs.Stakes.{Stakes}
 use Rattle.hg_model.proofs.PushLaws.{nobody}
-use Rattle.hg_life.specs.NodeView.{IsNode, NodeView, node_rows}
+use Rattle.hg_life.specs.NodeView.{IsNode, NodeView, node_rows, terms_of}
 use Rattle.hg_life.specs.Signing.{Accepts}
 use Rattle.hg_life.specs.Spelling.{spelling}
 use Rattle.hg_history.proofs.SoundLaws.{node_graph}
@@ -68,13 +68,13 @@ pub proves : {K : Type 0} (accepts : K → Accepts) (v : NodeView K) → IsNode 
     AreEntries order → bytes ≡ certificate_bytes (certificate (take len (node_rows v)) order) → Proves accepts v bytes
 proves accepts v is bytes len order least ordered sized spelled =
     let n : Stakes = v.start.members in
-    let node = node_graph (accepts v.start.keys) n v.start.coin v.start.own v.history is.coin is.history in
+    let node = node_graph (terms_of accepts v.start) n v.start.coin v.start.own v.history is.coin is.history in
     record {
       len = len;
       least = least;
       shows = record {
         spelled = spelled ∙ ap (λ (ps : List Placed). certificate_bytes (certificate (take len (node_rows v)) ps)) ordered;
-        few = omega (arith, length-take len (node_rows v), node.few);
+        few = omega (arith, length-take len (node_rows v), node.few, is.limit);
         sized = subst AreEntries ordered sized;
         graph = first_lawful (graph_in v) node.graph len;
         signed = λ x row at. node.events x row (first_row len x (node_rows v) row at);

@@ -5,7 +5,7 @@ use Rattle.std.specs.Int.{w32, w64, to_be_bytes}
 use Rattle.hg_model.specs.declared.row.Row.{Row}
 use Rattle.hg_model.specs.declared.row.Placed.{Placed}
 use Rattle.hg_life.specs.Spelling.{spelling}
-use Rattle.hg_life.specs.Verdict.{row_limit}
+use Rattle.hg_life.specs.Terms.{row_limit}
 
 -- what a certificate tells: some rows, and how they are ordered
 pub record Certificate : Type 0 where

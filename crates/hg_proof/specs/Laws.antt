@@ -3,6 +3,7 @@ use Rattle.std.specs.Prelude.{ℕ, ◌*◌, ◌≡◌, ◌<◌, List, map, get_o
 use Rattle.hg_model.specs.Stakes.{Stakes, total}
 use Rattle.hg_model.specs.Order.{Ordered, named_in}
 use Rattle.hg_life.specs.Signing.{Accepts}
+use Rattle.hg_life.specs.Terms.{Terms}
 use Rattle.hg_life.specs.History.{Change}
 use Rattle.hg_runs.specs.Run.{Run, IsRun, IsMoment}
 use Rattle.hg_runs.specs.Safety.{order_after, IsOnePrefix}
@@ -32,6 +33,6 @@ shown_order shown = map (named_in shown.rows) shown.order
 -- collide, the order that is shown and one that a node ever kept do not part, one being a prefix of the other; by whose
 -- keys the certificate was checked does not matter
 abbrev pub ShownIsSafe : Type 0
-ShownIsSafe = (accepts : ℕ → Accepts) (keys : Accepts) (n : Stakes) (c : ℕ) (run : Run) (bytes : List ℕ) (shown : Certificate) → IsRun accepts n c run →
+ShownIsSafe = (terms : ℕ → Terms) (keys : Accepts) (n : Stakes) (c : ℕ) (run : Run) (bytes : List ℕ) (shown : Certificate) → IsRun terms n c run →
     Shows keys n c bytes shown → 3 * dishonest_beside n c run shown.rows < total n → IsApart n c run shown.rows →
     (k : ℕ) (h : List Change) → IsMoment n run k h → IsOnePrefix (shown_order shown) (order_after n c h)

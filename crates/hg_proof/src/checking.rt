@@ -1,6 +1,6 @@
 ghost use Rattle.std.specs.Prelude.{◌≡◌, ◌≤◌, [], IfOk, length};
 ghost use Rattle.hg_life.specs.Results.{Gives};
-ghost use Rattle.hg_life.specs.Verdict.{row_limit};
+ghost use Rattle.hg_life.specs.Terms.{row_limit};
 ghost use Rattle.hg_graph.specs.RowsWithRoom.{rows_of};
 ghost use Rattle.hg_proof.specs.Answers.{IfYes, ShowsIn, Tells, TellsShown, judged_in, ordered_among};
 

@@ -12,7 +12,7 @@ use hg_model::Placed;
 pub(crate) const MAGIC: [u8; 4] = *b"HGP1";
 
 /// The greatest number of rows of a certificate: as many as a graph holds.
-pub const MOST_ROWS: usize = 16_384;
+pub const MOST_ROWS: usize = 1_048_576;
 
 /// That the form breaks where these bytes begin, which are left of so many.
 pub(crate) fn breaks_at(size: usize, left: &[u8]) -> Why

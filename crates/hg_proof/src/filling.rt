@@ -2,7 +2,7 @@ ghost use Rattle.std.specs.Prelude.{◌≡◌, ◌<◌, ◌≤◌, ◌+◌, ◌+
 ghost use Rattle.hg_model.specs.Graph.{IsGraph};
 ghost use Rattle.hg_model.specs.Prefix.{graph_of};
 ghost use Rattle.hg_life.specs.Members.{stakes_of};
-ghost use Rattle.hg_life.specs.Verdict.{row_limit};
+ghost use Rattle.hg_life.specs.Terms.{row_limit};
 ghost use Rattle.hg_graph.specs.Held.{graph_with};
 ghost use Rattle.hg_graph.specs.RowsWithRoom.{rows_of};
 ghost use Rattle.hg_arrival.specs.Arrival.{StandsOn};

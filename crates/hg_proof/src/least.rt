@@ -1,6 +1,6 @@
 ghost use Rattle.std.specs.Prelude.{ℕ, ◌≡◌, ◌<◌, ◌≤◌, ◌+◌, ◌↔◌, All, length, max, true, IfOk};
 ghost use Rattle.hg_model.specs.declared.row.Placed.{Placed};
-ghost use Rattle.hg_life.specs.Verdict.{row_limit};
+ghost use Rattle.hg_life.specs.Terms.{row_limit};
 ghost use Rattle.hg_proof.specs.Answers.{order_in};
 ghost use Rattle.hg_proof.specs.Least.{HasFrom, HasWhole, IsBetween, IsLeast};
 

@@ -15,7 +15,7 @@ use Rattle.hg_model.specs.Forks.{is_fork, has_fork, forking}
 use Rattle.hg_model.specs.Graph.{name_at, IsGraph}
 use Rattle.hg_life.specs.Spelling.{body_of, spelling, Spells}
 use Rattle.hg_life.specs.Verdict.{making}
-use Rattle.hg_life.specs.Signing.{Accepts}
+use Rattle.hg_life.specs.Terms.{Terms, row_limit}
 use Rattle.hg_life.specs.History.{replay, IsTaken, IsMade, IsHistory}
 use Rattle.hg_life.specs.History.Change.{Took, Made}
 use Rattle.hg_model.proofs.TestLaws.{is_graph, graph_from_test}
@@ -64,7 +64,7 @@ other_spelled = record {
   named = sym other_named;
 }
 
-one_making : making 3 [] [] 1 [] (replicate 64 1) ≡ answer.Made 0
+one_making : making row_limit 3 [] [] 1 [] (replicate 64 1) ≡ answer.Made 0
 unfolding first_words schedule rounds compress hash_after digest_bytes sha384
 one_making = refl
 
@@ -95,14 +95,14 @@ run (suc zero) = Took other ∷ []
 run (suc (suc zero)) = []
 run (suc (suc (suc m))) = Made one ∷ []
 
-abbrev accepts : ℕ → Accepts
-accepts m = all
+abbrev terms : ℕ → Terms
+terms m = all
 
 four_weigh : total (members 4) ≡ 4
 unfolding total weight_below
 four_weigh = refl
 
-is_run : IsRun accepts (members 4) 10 run
+is_run : IsRun terms (members 4) 10 run
 is_run = record { coin = omega arith; histories = of }
   where
     stake : 0 < total (members 4)
@@ -155,4 +155,4 @@ are_apart = record {
 }
 
 orders_agree : OrdersAgree (members 4) 10 run
-orders_agree = runs_safe accepts (members 4) 10 run is_run (omega (arith, one_dishonest, four_weigh)) are_apart
+orders_agree = runs_safe terms (members 4) 10 run is_run (omega (arith, one_dishonest, four_weigh)) are_apart

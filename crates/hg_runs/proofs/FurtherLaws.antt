@@ -13,7 +13,7 @@ use Rattle.hg_model.specs.Graph.{name_in, name_at}
 use Rattle.hg_model.specs.Order.{coin_at}
 use Rattle.hg_model.specs.Orders.{HasNameSizes}
 use Rattle.hg_life.specs.Spelling.{spelling}
-use Rattle.hg_life.specs.Signing.{Accepts}
+use Rattle.hg_life.specs.Terms.{Terms}
 use Rattle.hg_life.specs.History.{Change, replay}
 use Rattle.hg_model.proofs.PlacesLaws.{some_below_from}
 use Rattle.hg_model.proofs.PushLaws.{nobody}
@@ -50,67 +50,67 @@ apart_at n c run G k h apart at = record {
       (apart.equal k at.member).equal x y inside_x (stays_within n c run k h at y inside_y) (same ∙ sym (ap name_in there)) ∙ there;
 }
 
-module _ (accepts : ℕ → Accepts) (n : Stakes) (c : ℕ) (run : Run) (G : List Row) (is : IsRun accepts n c run) (m : ℕ) (member : m < member_count n) where
+module _ (terms : ℕ → Terms) (n : Stakes) (c : ℕ) (run : Run) (G : List Row) (is : IsRun terms n c run) (m : ℕ) (member : m < member_count n) where
   pub honest_beside_from : AreEvents G → is_dishonest_beside n c run G m ≡ false → IsHonestBeside n c run G m
   unfolding is_dishonest_beside
   honest_beside_from events none =
       let both = or_parts (has_stray run G m) (is_dishonest n c run m) none in
       record {
-        shown = record { made = none_stray accepts n c run m is member G events both.0 };
-        nodes = honest_from accepts n c run m is member both.1;
+        shown = record { made = none_stray terms n c run m is member G events both.0 };
+        nodes = honest_from terms n c run m is member both.1;
       }
 
   pub honest_beside_is_not : IsHonestBeside n c run G m → is_dishonest_beside n c run G m ≡ false
   unfolding is_dishonest_beside
   honest_beside_is_not honest =
-      or_from (has_stray run G m) (is_dishonest n c run m) (made_not_stray accepts n c run m is member G honest.shown.made) (honest_is_not accepts n c run m is member honest.nodes)
+      or_from (has_stray run G m) (is_dishonest n c run m) (made_not_stray terms n c run m is member G honest.shown.made) (honest_is_not terms n c run m is member honest.nodes)
 
   -- the chain of an honest member's own node has its rows, of the graph and of a node
   chain_beside : IsHonestBeside n c run G m → (k : ℕ) (h : List Change) → IsMoment n run k h → HasOneChain m G (rows_after n c h)
   chain_beside honest k h at = record {
     line = graph_at n c run m;
-    chain = (whole_graph accepts n c run is m member).own_chain;
+    chain = (whole_graph terms n c run is m member).own_chain;
     has_first = made_rows n c run m G honest.shown.made;
-    has_second = own_row accepts n c run is m member honest.nodes k h at;
+    has_second = own_row terms n c run is m member honest.nodes k h at;
   }
 
   -- and so of two graphs
   chain_of_two : (H : List Row) → IsHonestIn run G m → IsHonestIn run H m → HasOneChain m G H
   chain_of_two H first second = record {
     line = graph_at n c run m;
-    chain = (whole_graph accepts n c run is m member).own_chain;
+    chain = (whole_graph terms n c run is m member).own_chain;
     has_first = made_rows n c run m G first.made;
     has_second = made_rows n c run m H second.made;
   }
 
 pub further_honesty_tested : FurtherHonestyIsTested
-further_honesty_tested accepts n c run G m is events member =
-    (honest_beside_from accepts n c run G is m member events, honest_beside_is_not accepts n c run G is m member)
+further_honesty_tested terms n c run G m is events member =
+    (honest_beside_from terms n c run G is m member events, honest_beside_is_not terms n c run G is m member)
 
 pub honest_further_agrees : HonestFurtherGraphAgrees
-honest_further_agrees accepts n c run G faulty is further apart few honest k h at =
-    let node = moment_graph accepts n c run is k h at in
+honest_further_agrees terms n c run G faulty is further apart few honest k h at =
+    let node = moment_graph terms n c run is k h at in
     let orders = chain_orders n c 48 G (rows_after n c h) (fame_marks n c (links G) (coin_at G)) (replay n c h).marks faulty is.coin further.graph node.graph
-    (own_fame n c G) (moment_fame accepts n c run is k h at) (apart_at n c run G k h apart at) (sizes_of_events G further.events) node.sizes few
-    (λ m member not_faulty. chain_beside accepts n c run G is m member (honest m member not_faulty) k h at) in
-    rw (own_order n c G, order_is accepts n c run is k h at) orders
+    (own_fame n c G) (moment_fame terms n c run is k h at) (apart_at n c run G k h apart at) (sizes_of_events G further.events) node.sizes few
+    (λ m member not_faulty. chain_beside terms n c run G is m member (honest m member not_faulty) k h at) in
+    rw (own_order n c G, order_is terms n c run is k h at) orders
 
 pub further_safe : FurtherGraphIsSafe
 unfolding dishonest_beside
-further_safe accepts n c run G is further few apart =
-    honest_further_agrees accepts n c run G (is_dishonest_beside n c run G) is further apart few
-    (λ m member none. honest_beside_from accepts n c run G is m member further.events none)
+further_safe terms n c run G is further few apart =
+    honest_further_agrees terms n c run G (is_dishonest_beside n c run G) is further apart few
+    (λ m member none. honest_beside_from terms n c run G is m member further.events none)
 
 pub further_union : FurtherUnionIsAGraph
 unfolding dishonest_beside
-further_union accepts n c run G is further few apart k h at =
-    stand_in_one n G (rows_after n c h) (is_dishonest_beside n c run G) further.graph (moment_graph accepts n c run is k h at).graph (apart_at n c run G k h apart at) few
-    (λ m member none. chain_beside accepts n c run G is m member (honest_beside_from accepts n c run G is m member further.events none) k h at)
+further_union terms n c run G is further few apart k h at =
+    stand_in_one n G (rows_after n c h) (is_dishonest_beside n c run G) further.graph (moment_graph terms n c run is k h at).graph (apart_at n c run G k h apart at) few
+    (λ m member none. chain_beside terms n c run G is m member (honest_beside_from terms n c run G is m member further.events none) k h at)
 
 pub two_further_agree : TwoFurtherGraphsAgree
-two_further_agree accepts n c run G H faulty is first second equal few honest =
+two_further_agree terms n c run G H faulty is first second equal few honest =
     own_chain_orders n c 48 G H faulty is.coin first.graph second.graph equal (sizes_of_events G first.events) (sizes_of_events H second.events) few
-    (λ m member not_faulty. (let both = honest m member not_faulty in chain_of_two accepts n c run G is m member H both.0 both.1))
+    (λ m member not_faulty. (let both = honest m member not_faulty in chain_of_two terms n c run G is m member H both.0 both.1))
 
 -- a node's own graph
 
@@ -135,8 +135,8 @@ moment_apart n c run k h apart at = record {
 
 pub moment_further : MomentIsAFurtherGraph
 unfolding is_dishonest_beside
-moment_further accepts n c run k h is apart at =
-    let node = moment_graph accepts n c run is k h at in (
+moment_further terms n c run k h is apart at =
+    let node = moment_graph terms n c run is k h at in (
       record { graph = node.graph; events = λ x row here. (node.events x row here).spelled },
       moment_apart n c run k h apart at,
       λ m. or_within (has_stray run (rows_after n c h) m) (is_dishonest n c run m) (stray_later n c run k h at m),

@@ -6,7 +6,7 @@ use Rattle.std.proofs.lemmas.Map.Keys.{any_passes_from_place}
 use Rattle.hg_model.specs.declared.row.Row.{Row}
 use Rattle.hg_model.specs.Stakes.{Stakes, member_count}
 use Rattle.hg_life.specs.Spelling.{spelling, Spells}
-use Rattle.hg_life.specs.Signing.{Accepts}
+use Rattle.hg_life.specs.Terms.{Terms}
 use Rattle.hg_life.specs.History.{Change}
 use Rattle.hg_life.specs.History.Change.{Took, Made, Marked}
 use Rattle.hg_model.proofs.PlacesLaws.{some_below_from, some_below_found}
@@ -34,7 +34,7 @@ made_bytes row (Took other) is = absurd (true≢false (sym is))
 made_bytes row (Made other) is = (other, refl, bytes_same (spelling other) (spelling row) is)
 made_bytes row (Marked len share) is = absurd (true≢false (sym is))
 
-module _ (accepts : ℕ → Accepts) (n : Stakes) (c : ℕ) (run : Run) (m : ℕ) (is : IsRun accepts n c run) (member : m < member_count n) where
+module _ (terms : ℕ → Terms) (n : Stakes) (c : ℕ) (run : Run) (m : ℕ) (is : IsRun terms n c run) (member : m < member_count n) where
   -- events with the same bytes are equal
   made_row : (row : Row) → Spells (spelling row) row → list_any (is_making_of row) (run m) ≡ true → HasMade (run m) row
   made_row row event any =
@@ -42,7 +42,7 @@ module _ (accepts : ℕ → Accepts) (n : Stakes) (c : ℕ) (run : Run) (m : ℕ
       let made = made_bytes row found.1 found.3 in
       let has : HasMade (run m) made.0 = (found.0, found.2 ∙ ap (λ (e : Change). Some e) made.1) in
       let own = changes_left n c (run m) made.0 (inl has) in
-      let other : Spells (spelling made.0) made.0 = ((whole_graph accepts n c run is m member).events own.0 made.0 own.1).spelled in
+      let other : Spells (spelling made.0) made.0 = ((whole_graph terms n c run is m member).events own.0 made.0 own.1).spelled in
       subst (HasMade (run m)) (one_row made.0 row (subst (λ (bytes : List ℕ). Spells bytes made.0) made.2 other) event) has
     where
       one_row : (one two : Row) → Spells (spelling two) one → Spells (spelling two) two → one ≡ two
@@ -74,7 +74,7 @@ module _ (accepts : ℕ → Accepts) (n : Stakes) (c : ℕ) (run : Run) (m : ℕ
   unfolding is_dishonest stray
   honest_from none = record {
     made = λ k x row member_k.
-        let events : AreEvents (graph_at n c run k) = λ y other at. ((whole_graph accepts n c run is k member_k).events y other at).spelled in
+        let events : AreEvents (graph_at n c run k) = λ y other at. ((whole_graph terms n c run is k member_k).events y other at).spelled in
         none_stray (graph_at n c run k) events
         (false_from_ne_true (stray k) (λ counted. both_ways (is_dishonest n c run m) none (some_below_from (member_count n) stray k member_k counted))) x row;
   }
@@ -87,4 +87,4 @@ module _ (accepts : ℕ → Accepts) (n : Stakes) (c : ℕ) (run : Run) (m : ℕ
       both_ways (stray k.0) (made_not_stray (graph_at n c run k.0) (λ x row at by. honest.made k.0 x row k.1 at by)) k.2)
 
 pub honesty_tested : HonestyIsTested
-honesty_tested accepts n c run m is member = (honest_from accepts n c run m is member, honest_is_not accepts n c run m is member)
+honesty_tested terms n c run m is member = (honest_from terms n c run m is member, honest_is_not terms n c run m is member)

@@ -7,7 +7,7 @@ use Rattle.hg_model.specs.Links.{Link}
 use Rattle.hg_model.specs.Graph.{name_in, name_at, creator_of_row, creator_at}
 use Rattle.hg_model.specs.Order.{named_in, ordered}
 use Rattle.hg_model.specs.Orders.{AreFame, marked_order_by_names}
-use Rattle.hg_life.specs.Signing.{Accepts}
+use Rattle.hg_life.specs.Terms.{Terms}
 use Rattle.hg_life.specs.History.{Change, replay, IsHistory}
 use Rattle.hg_model.proofs.LongerLaws.{slice_get-append}
 use Rattle.hg_model.proofs.PushLaws.{nobody}
@@ -63,26 +63,26 @@ equal_rows n c run j k a b apart at_a at_b = record {
       ∙ second);
 }
 
-module _ (accepts : ℕ → Accepts) (n : Stakes) (c : ℕ) (run : Run) (is : IsRun accepts n c run) where
+module _ (terms : ℕ → Terms) (n : Stakes) (c : ℕ) (run : Run) (is : IsRun terms n c run) where
   -- each node of the run at its end
-  pub whole_graph : (k : ℕ) → k < member_count n → IsNodeGraph (accepts k) n k (graph_at n c run k)
-  whole_graph k member = node_graph (accepts k) n c k (run k) is.coin (is.histories k member)
+  pub whole_graph : (k : ℕ) → k < member_count n → IsNodeGraph (terms k) n k (graph_at n c run k)
+  whole_graph k member = node_graph (terms k) n c k (run k) is.coin (is.histories k member)
 
   -- each moment is one of a history
-  pub of_history : (k : ℕ) (h : List Change) → IsMoment n run k h → IsHistory (accepts k) n c k h
-  of_history k h at = moment (accepts k) n c k h at.later (subst (IsHistory (accepts k) n c k) at.whole (is.histories k at.member))
+  pub of_history : (k : ℕ) (h : List Change) → IsMoment n run k h → IsHistory (terms k) n c k h
+  of_history k h at = moment (terms k) n c k h at.later (subst (IsHistory (terms k) n c k) at.whole (is.histories k at.member))
 
-  pub moment_graph : (k : ℕ) (h : List Change) → IsMoment n run k h → IsNodeGraph (accepts k) n k (rows_after n c h)
-  moment_graph k h at = node_graph (accepts k) n c k h is.coin (of_history k h at)
+  pub moment_graph : (k : ℕ) (h : List Change) → IsMoment n run k h → IsNodeGraph (terms k) n k (rows_after n c h)
+  moment_graph k h at = node_graph (terms k) n c k h is.coin (of_history k h at)
 
   pub moment_fame : (k : ℕ) (h : List Change) → IsMoment n run k h → AreFame n c (rows_after n c h) (replay n c h).marks
-  moment_fame k h at = (sound (accepts k) n c k h is.coin (of_history k h at)).fame
+  moment_fame k h at = (sound (terms k) n c k h is.coin (of_history k h at)).fame
 
   -- the kept order is that of the rows and the marks
   pub order_is : (k : ℕ) (h : List Change) → IsMoment n run k h → order_after n c h ≡ marked_order_by_names n (rows_after n c h) (replay n c h).marks
   order_is k h at =
       let s = replay n c h in
-      ap (λ (L : List Link). map (named_in s.rows) (ordered n s.rows L s.marks)) (sound (accepts k) n c k h is.coin (of_history k h at)).linked
+      ap (λ (L : List Link). map (named_in s.rows) (ordered n s.rows L s.marks)) (sound (terms k) n c k h is.coin (of_history k h at)).linked
 
   module _ (m : ℕ) (member : m < member_count n) (honest : IsHonest n c run m) where
     -- a row by an honest member is a row of its own node

@@ -19,7 +19,7 @@ use Rattle.hg_model.specs.Order.{coin_at, sig_at, time_at, sort_by, median, can_
 use Rattle.hg_life.specs.Spelling.{body_of, spelling}
 use Rattle.hg_life.specs.Verdict.{making}
 use Rattle.hg_model.specs.Shares.{whole, share_fame}
-use Rattle.hg_life.specs.Signing.{Accepts}
+use Rattle.hg_life.specs.Terms.{Terms, row_limit}
 use Rattle.hg_life.specs.History.{Change, replay, news, IsTaken, IsMade, MarksSome, IsHistory}
 use Rattle.hg_life.specs.History.Change.{Took, Made, Marked}
 use Rattle.hg_prefix.specs.Standing.{StandsIn, IsRowOf}
@@ -34,7 +34,7 @@ use Rattle.hg_runs.proofs.SafetyLaws.{runs_safe}
 
 -- the first member has its own first row before that of the other, so rows stand at other places than in the node of the second
 
-making1 : making 0 ([]) [] 1 [] (replicate 64 1) ≡ answer.Made 0
+making1 : making row_limit 0 ([]) [] 1 [] (replicate 64 1) ≡ answer.Made 0
 unfolding first_words schedule rounds compress hash_after digest_bytes sha384
 making1 = refl
 
@@ -55,7 +55,7 @@ taken0 : IsTaken all (members 2) 0 (row1 ∷ []) row0
 unfolding forking total has_fork is_fork is_self_ancestor weight_below some_below reaches by_place values_below self_parent parents creator links
 taken0 = record { spelled = event0; accepted = refl }
 
-making2 : making 0 (row1 ∷ row0 ∷ []) (name0 ∷ []) 3 [] (replicate 64 3) ≡ answer.Made 2
+making2 : making row_limit 0 (row1 ∷ row0 ∷ []) (name0 ∷ []) 3 [] (replicate 64 3) ≡ answer.Made 2
 unfolding first_words schedule rounds compress hash_after digest_bytes sha384
 making2 = refl
 
@@ -76,7 +76,7 @@ taken3 : IsTaken all (members 2) 0 (row1 ∷ row0 ∷ row2 ∷ []) row3
 unfolding forking total has_fork is_fork is_self_ancestor weight_below some_below reaches by_place values_below self_parent parents creator links
 taken3 = record { spelled = event3; accepted = refl }
 
-making4 : making 0 (row1 ∷ row0 ∷ row2 ∷ row3 ∷ []) (name3 ∷ []) 5 [] (replicate 64 5) ≡ answer.Made 4
+making4 : making row_limit 0 (row1 ∷ row0 ∷ row2 ∷ row3 ∷ []) (name3 ∷ []) 5 [] (replicate 64 5) ≡ answer.Made 4
 unfolding first_words schedule rounds compress hash_after digest_bytes sha384
 making4 = refl
 
@@ -97,7 +97,7 @@ taken5 : IsTaken all (members 2) 0 (row1 ∷ row0 ∷ row2 ∷ row3 ∷ row4 ∷
 unfolding forking total has_fork is_fork is_self_ancestor weight_below some_below reaches by_place values_below self_parent parents creator links
 taken5 = record { spelled = event5; accepted = refl }
 
-making6 : making 0 (row1 ∷ row0 ∷ row2 ∷ row3 ∷ row4 ∷ row5 ∷ []) (name5 ∷ []) 7 [] (replicate 64 7) ≡ answer.Made 6
+making6 : making row_limit 0 (row1 ∷ row0 ∷ row2 ∷ row3 ∷ row4 ∷ row5 ∷ []) (name5 ∷ []) 7 [] (replicate 64 7) ≡ answer.Made 6
 unfolding first_words schedule rounds compress hash_after digest_bytes sha384
 making6 = refl
 
@@ -148,10 +148,10 @@ run zero = history_0
 run (suc m) = history_1
 
 -- each node accepts each signature
-abbrev accepts : ℕ → Accepts
-accepts m = all
+abbrev terms : ℕ → Terms
+terms m = all
 
-is_run : IsRun accepts (members 2) 10 run
+is_run : IsRun terms (members 2) 10 run
 is_run = record { coin = omega arith; histories = of }
   where
     of : (m : ℕ) → m < 2 → IsHistory all (members 2) 10 m (run m)
@@ -211,7 +211,7 @@ are_apart = record {
 
 -- so its orders agree
 orders_agree : OrdersAgree (members 2) 10 run
-orders_agree = runs_safe accepts (members 2) 10 run is_run (omega (arith, none_dishonest, two_weigh)) are_apart
+orders_agree = runs_safe terms (members 2) 10 run is_run (omega (arith, none_dishonest, two_weigh)) are_apart
 
 -- received in round 2
 abbrev ordered : List ℕ → ℕ → Ordered

@@ -2,7 +2,7 @@
 use Rattle.std.specs.Prelude.{ℕ, ◌≡◌, ◌<◌, List, ◌++◌}
 use Rattle.hg_model.specs.declared.row.Row.{Row}
 use Rattle.hg_model.specs.Stakes.{Stakes, member_count}
-use Rattle.hg_life.specs.Signing.{Accepts}
+use Rattle.hg_life.specs.Terms.{Terms}
 use Rattle.hg_life.specs.History.{Change, replay, IsHistory}
 
 -- the history of each member's node, by the member's number; that of a member without a node is empty
@@ -11,9 +11,9 @@ Run = ℕ → List Change
 
 -- each is a history of its member's node, which accepts signatures by keys of its own. Nothing is said of the order in
 -- which changes of different nodes come
-pub record IsRun (accepts : ℕ → Accepts) (n : Stakes) (c : ℕ) (run : Run) : Type 0 where
+pub record IsRun (terms : ℕ → Terms) (n : Stakes) (c : ℕ) (run : Run) : Type 0 where
   pub coin : 2 < c
-  pub histories : (m : ℕ) → m < member_count n → IsHistory (accepts m) n c m (run m)
+  pub histories : (m : ℕ) → m < member_count n → IsHistory (terms m) n c m (run m)
 
 -- the rows of the node of member m at the end of the run
 abbrev pub graph_at : Stakes → ℕ → Run → ℕ → List Row

@@ -9,7 +9,7 @@
 //! use Rattle.hg_runs.proofs.SafetyLaws.{runs_safe}
 //!
 //! safe : (w : WorldView) → IsWorld w → IsSafe w.members w.coin (run_of w)
-//! safe w is = runs_safe (λ m. accepts_by (node_at w m).start.keys) w.members w.coin (run_of w) (record {
+//! safe w is = runs_safe (λ m. terms_of accepts_by (node_at w m).start) w.members w.coin (run_of w) (record {
 //!   coin = is.coin;
 //!   histories = ...
 //! })

@@ -17,7 +17,7 @@ use Rattle.hg_life.specs.Reading.{read_event}
 use Rattle.hg_life.specs.Verdict.{verdict_of}
 use Rattle.hg_life.specs.History.{Change}
 use Rattle.hg_life.specs.History.Change.{Took, Made}
-use Rattle.hg_life.specs.NodeView.{NodeView, node_rows, with_changes}
+use Rattle.hg_life.specs.NodeView.{NodeView, node_rows, with_changes, terms_of}
 use Rattle.hg_life.specs.Calls.{put_answer, put_changes}
 use Rattle.hg_life.specs.Signing.{Accepts}
 use Rattle.hg_history.proofs.CallLaws as node
@@ -137,7 +137,7 @@ module _ {V : Type 0} (accepts : V → Accepts) (v : NodeView V) (bytes : List �
   known_reads : (read : Result Row ByteFault) → read_event bytes ≡ read → put_answer accepts v bytes ≡ Known place → (row : Row) × (read_event bytes ≡ Ok row)
   unfolding put_answer
   known_reads (Err e) is known =
-      (let no_event : Refused _ ≡ Known place = sym (ap (λ (r : Result Row ByteFault). verdict_of (accepts v.start.keys) v.start.members v.start.own (node_rows v) r) is) ∙ known in cc)
+      (let no_event : Refused _ ≡ Known place = sym (ap (λ (r : Result Row ByteFault). verdict_of (terms_of accepts v.start) v.start.members v.start.own (node_rows v) r) is) ∙ known in cc)
   known_reads (Ok row) is known = (row, is)
 
   known_holds : put_answer accepts v bytes ≡ Known place → HoldsEvent v bytes

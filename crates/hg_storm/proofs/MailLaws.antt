@@ -10,7 +10,7 @@ use Rattle.std.proofs.lemmas.List.Elements.{All-from_recursion, All-push, filter
 use Rattle.std.proofs.lemmas.Option.{slice_get-get_or, slice_get_within}
 use Rattle.hg_model.specs.declared.row.Row.{Row}
 use Rattle.hg_model.specs.Graph.{name_at, name_in}
-use Rattle.hg_life.specs.NodeView.{IsNode, NodeView, node_rows}
+use Rattle.hg_life.specs.NodeView.{IsNode, NodeView, node_rows, terms_of}
 use Rattle.hg_life.specs.Signing.{accepts_by}
 use Rattle.hg_life.specs.Spelling.{spelling}
 use Rattle.hg_history.proofs.SoundLaws.{node_graph}
@@ -132,7 +132,7 @@ name_is rows x low =
 pub once_of : (v : NodeView Secrets) (n : ℕ) → IsNode accepts_by v → n ≤ length (node_rows v) → AreOnce (take n (names_in v))
 once_of v n node within x y low_x low_y same =
     let long : length (take n (names_in v)) ≡ n = length-take-le n (names_in v) (omega (arith, within, names_long v)) in
-    let graph = (node_graph (accepts_by v.start.keys) v.start.members v.start.coin v.start.own v.history node.coin node.history).graph in
+    let graph = (node_graph (terms_of accepts_by v.start) v.start.members v.start.coin v.start.own v.history node.coin node.history).graph in
     graph.distinct.one x y (omega (arith, low_x, long, within)) (omega (arith, low_y, long, within))
     (sym (name_is (node_rows v) x (omega (arith, low_x, long, within)))
     ∙ (sym (get_or-take n (names_in v) x [] (omega (arith, low_x, long)))

@@ -18,7 +18,7 @@ use Rattle.hg_life.specs.History.{Change}
 use Rattle.hg_life.specs.History.Change.{Took}
 use Rattle.hg_life.specs.Calls.{put_answer}
 use Rattle.hg_life.specs.Members.{MemberList}
-use Rattle.hg_life.specs.NodeView.{IsNode, NodeView, node_rows}
+use Rattle.hg_life.specs.NodeView.{IsNode, NodeView, node_rows, terms_of}
 use Rattle.hg_life.specs.Signing.{accepts_by}
 use Rattle.hg_life.specs.Spelling.{spelling}
 use Rattle.hg_history.proofs.SoundLaws.{node_graph}
@@ -119,7 +119,7 @@ module _ (plan : Plan) (room : ℕ) (nodes : List (NodeView Secrets)) (logs : Li
     pub row_read : read_event m.bytes ≡ Ok its_row
     row_read =
         let node : IsNode accepts_by sender = (told.each m.from v g from_in).1.lawful in
-        let events = (node_graph (accepts_by sender.start.keys) sender.start.members sender.start.coin sender.start.own sender.history node.coin node.history).events in
+        let events = (node_graph (terms_of accepts_by sender.start) sender.start.members sender.start.coin sender.start.own sender.history node.coin node.history).events in
         ap read_event (sym row_spells) ∙ Spells-read_event (spelling its_row) its_row (events its_place its_row row_at).spelled
 
     pub sent_as : name_sent nodes m ≡ get_or (names_in sender) m.number []

@@ -1,4 +1,7 @@
 -- A turn's row, which is made or could not be
+use Rattle.std.proofs.lemmas.Bool.{lt-leb}
+use Rattle.hg_life.specs.declared.answers.MakeFault.TheVariants as made_fault
+use Rattle.hg_life.specs.Verdict.{made_or}
 use Rattle.std.proofs.Common.{slice_get, ◌≡◌, inl, inr, ℕ, suc, ◌+◌, ◌<◌, ◌⊎◌, Bool, true, false, cond, List, [], ◌∷◌, length, Option, Some, None, refl, sym, ap, ◌∙◌, subst, arith}
 use Rattle.std.proofs.lemmas.Bool.{cases_Bool, true≢false}
 use Rattle.std.proofs.lemmas.List.{length-map, length_push}
@@ -29,33 +32,33 @@ use Rattle.hg_storm.proofs.MadeLaws.{AddsFor, get_end, made_none, made_one, next
 
 -- the first event is made
 
-first_made : (own time : ℕ) (sig : List ℕ) → making own [] [] time [] sig ≡ answer.Made 0
-first_made own time sig = refl
+first_made : (limit own time : ℕ) (sig : List ℕ) → 0 < limit → making limit own [] [] time [] sig ≡ answer.Made 0
+first_made limit own time sig room = ap (λ (full : Bool). made_or (cond full (Some (made_fault.Full limit)) None) 0) (lt-leb limit 0 room)
 
-made_of_none : (v : NodeView Secrets) (others : List (List ℕ)) (time : ℕ) (sig : List ℕ) → node_rows v ≡ [] → next_others v ≡ Some others → make_answer v others time [] sig ≡ answer.Made 0
+made_of_none : (v : NodeView Secrets) (others : List (List ℕ)) (time : ℕ) (sig : List ℕ) → 0 < v.start.limit → node_rows v ≡ [] → next_others v ≡ Some others → make_answer v others time [] sig ≡ answer.Made 0
 unfolding make_answer
-made_of_none v others time sig none next =
+made_of_none v others time sig room none next =
     let own : ℕ = v.start.own in
     let first : ◌≡◌ {A = Option (List (List ℕ))} (Some []) (Some others) =
     sym (ap (λ (G : List Row). others_after (last_name own G) (last_other own G)) none) ∙ next in
     let bare : others ≡ [] = sym (one_of [] others first) in
-    ap (λ (G : List Row). making own G others time [] sig) none ∙ (ap (λ (os : List (List ℕ)). making own [] os time [] sig) bare ∙ first_made own time sig)
+    ap (λ (G : List Row). making v.start.limit own G others time [] sig) none ∙ (ap (λ (os : List (List ℕ)). making v.start.limit own [] os time [] sig) bare ∙ first_made v.start.limit own time sig room)
   where
     one_of : (xs ys : List (List ℕ)) → ◌≡◌ {A = Option (List (List ℕ))} (Some xs) (Some ys) → xs ≡ ys
     one_of xs ys e = cc
 
 -- a node without rows makes one
-no_row_makes : (v w : NodeView Secrets) (time : ℕ) (made : Option MakeAnswer) → node_rows v ≡ [] → MakesNext accepts_by v time made w → is_row made ≡ true
-no_row_makes v w time None none next =
+no_row_makes : (v w : NodeView Secrets) (time : ℕ) (made : Option MakeAnswer) → 0 < v.start.limit → node_rows v ≡ [] → MakesNext accepts_by v time made w → is_row made ≡ true
+no_row_makes v w time None room none next =
     let own : ℕ = v.start.own in
     absurd (something (sym (ap (λ (G : List Row). others_after (last_name own G) (last_other own G)) none) ∙ next.1))
   where
     something : ◌≡◌ {A = Option (List (List ℕ))} (Some []) None → ⊥
     something e = cc
-no_row_makes v w time (Some (answer.Made place)) none next = refl
-no_row_makes v w time (Some (answer.Refused f)) none next =
+no_row_makes v w time (Some (answer.Made place)) room none next = refl
+no_row_makes v w time (Some (answer.Refused f)) room none next =
     let m = next.2.making in
-    absurd (made_not (m.answers ∙ made_of_none v next.0 time m.sig none next.1))
+    absurd (made_not (m.answers ∙ made_of_none v next.0 time m.sig room none next.1))
   where
     made_not : answer.Refused f ≡ answer.Made 0 → ⊥
     made_not e = cc
@@ -115,15 +118,15 @@ module _ (p : SharedNode Secrets) (s t : SeatView Secrets) (time : ℕ) (a : Opt
     | inr unmade ↦ inr (idle_now unmade)
   ]
 
-  pub some_rows : 0 < length (bytes_seen p t)
-  some_rows = elim (cases_Bool (is_row a)) [
+  pub some_rows : 0 < p.start.start.limit → 0 < length (bytes_seen p t)
+  some_rows room = elim (cases_Bool (is_row a)) [
     | inl was_made ↦
         let one = one_of time a next.more was_made adds in
         let held = changes_left p.start.start.members p.start.start.coin t.seen one.0 (inl (many, made_there one.0 one.1)) in
         omega (arith, slice_get_within (node_rows (node_at p.start t.seen)) held.0 one.0 held.1, length-map (node_rows (node_at p.start t.seen)) spelling)
     | inr unmade ↦
         let some : 0 < length (node_rows (node_at p.start t.seen)) =
-        some_of_list (node_rows (node_at p.start t.seen)) (λ none. true≢false (sym (no_row_makes (node_at p.start t.seen) (node_at p.start t.seen) time a none (makes_here unmade)) ∙ unmade)) in
+        some_of_list (node_rows (node_at p.start t.seen)) (λ none. true≢false (sym (no_row_makes (node_at p.start t.seen) (node_at p.start t.seen) time a room none (makes_here unmade)) ∙ unmade)) in
         omega (arith, some, length-map (node_rows (node_at p.start t.seen)) spelling)
   ]
 

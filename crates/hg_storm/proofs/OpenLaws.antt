@@ -335,16 +335,17 @@ fates_none : (p : SharedNode Secrets) (first : SeatView Secrets) → HasFates ac
 fates_none p first = record { refusals = tt; once = tt; held = λ j no. absurd (omega (arith, no)); came = tt }
 
 -- with a seat that added nothing, ports that put in nothing, one that took nothing, and an empty log
-begins : (plan : Plan) (place : ℕ) (mails : List MailboxView) (p : SharedNode Secrets) (own : ℕ) (log : Log) (first : SeatView Secrets) (ports : List PortView) (inbox : PortView) → own < length mails →
+begins : (plan : Plan) (place : ℕ) (mails : List MailboxView) (p : SharedNode Secrets) (own : ℕ) (log : Log) (first : SeatView Secrets) (ports : List PortView) (inbox : PortView) → own < length mails → 0 < p.start.start.limit →
     IsSeat accepts_by p first → IsNewLog (length mails) log → AreNewSenders own mails ports → ((m : MailboxView) → IsNewReceiver (get_or mails own m) inbox) →
     Standing plan place mails p 0 0 own log (split_off first) ports inbox
-begins plan place mails p own log first ports inbox inside seat new senders box = record {
+begins plan place mails p own log first ports inbox inside room seat new senders box = record {
   me = inside;
   seat = seat_split_off accepts_by p first seat;
   fates = subst (λ (z : List Message × List RefusedMessage). HasFates accepts_by p (split_off first) z.0 z.1) (λ i. (sym new.taken i, sym new.refused i)) (fates_none p first);
   inbox = λ m. subst (λ (l : List Message). IsInbox (get_or mails own m) l inbox) (sym new.taken) (record { of = (box m).of; view = (box m).view });
   alone = (box (some_of mails own inside)).count;
   served = served_nobody plan place own (bytes_seen p (split_off first)) mails log.dispatches.items ports new.dispatches senders;
+  room = room;
   some = λ no. absurd (omega (arith, no));
   rows = omega (arith, new.idle, none_made);
   idle = new.idle;
@@ -356,26 +357,26 @@ begins plan place mails p own log first ports inbox inside seat new senders box 
     none_made = refl
 
 new_job_may_run : (plan : Plan) (mails : List MailboxView) (places : List (SharedNode Secrets)) (k : ℕ) (first : SeatView Secrets) (job : Job) → k < length mails → length places ≡ length mails →
-    ((p : SharedNode Secrets) → IsSeat accepts_by (get_or places k p) first) → IsNewJob mails plan.seed k first job → MayRun mails places plan job
-new_job_may_run plan mails places k first job inside count seat new =
+    ((p : SharedNode Secrets) → 0 < (get_or places k p).start.start.limit) → ((p : SharedNode Secrets) → IsSeat accepts_by (get_or places k p) first) → IsNewJob mails plan.seed k first job → MayRun mails places plan job
+new_job_may_run plan mails places k first job inside count room seat new =
     let d = new.desk in
     let me : k ≡ job.desk.me = sym d.me in
     record {
       me = omega (arith, me, inside);
       count = count;
       stands = λ place p. subst (λ (z : ℕ × SeatView Secrets). Standing plan place mails (get_or places z.0 p) 0 0 z.0 job.desk.log z.1 job.desk.ports.items job.desk.inbox) (λ i. (me i, sym d.seat i))
-          (begins plan place mails (get_or places k p) k job.desk.log first job.desk.ports.items job.desk.inbox inside (seat p) d.log d.ports d.inbox);
+          (begins plan place mails (get_or places k p) k job.desk.log first job.desk.ports.items job.desk.inbox inside (room p) (seat p) d.log d.ports d.inbox);
       draws = λ others. d.draws ∙ ap (λ (n : ℕ). first_state plan.seed n) me;
       seat = λ p. subst (λ (z : ℕ × SeatView Secrets). IsSeat accepts_by (get_or places z.0 p) z.1) (λ i. (me i, sym new.seat i)) (seat_after_split accepts_by (get_or places k p) first (seat p));
     }
 
 pub new_jobs_may_run : (plan : Plan) (mails : List MailboxView) (places : List (SharedNode Secrets)) (firsts : List (SeatView Secrets)) (jobs : List Job) →
-    length places ≡ length mails → AreSeats accepts_by places firsts → AreNewJobs mails plan.seed firsts jobs → All (MayRun mails places plan) jobs
-new_jobs_may_run plan mails places firsts jobs count seats new k job inside =
+    length places ≡ length mails → ((k : ℕ) (p : SharedNode Secrets) → k < length places → 0 < (get_or places k p).start.start.limit) → AreSeats accepts_by places firsts → AreNewJobs mails plan.seed firsts jobs → All (MayRun mails places plan) jobs
+new_jobs_may_run plan mails places firsts jobs count rooms seats new k job inside =
     let low : k < length firsts = omega (arith, inside, new.count) in
     let below : k < length places = omega (arith, low, seats.count) in
     let s : SeatView Secrets = some_of firsts k low in
-    new_job_may_run plan mails places k (get_or firsts k s) (get_or jobs k job) (omega (arith, below, count)) count (λ p. seats.each k p s below) (new.each k s job low)
+    new_job_may_run plan mails places k (get_or firsts k s) (get_or jobs k job) (omega (arith, below, count)) count (λ p. rooms k p below) (λ p. seats.each k p s below) (new.each k s job low)
 
 pub new_job_me : (mails : List MailboxView) (seed : ℕ) (firsts : List (SeatView Secrets)) (jobs : List Job) (k : ℕ) (d : Job) →
     AreNewJobs mails seed firsts jobs → k < length jobs → (get_or jobs k d).desk.me ≡ k

@@ -12,8 +12,9 @@ use Rattle.hg_model.specs.Orders.{IsPrefix}
 use Rattle.hg_model.specs.Stakes.{Stakes}
 use Rattle.hg_life.specs.History.{AreSteps, Change, State, empty, replay, step, with_marks, with_row}
 use Rattle.hg_life.specs.History.Change.{Took, Made, Marked}
-use Rattle.hg_life.specs.NodeView.{IsNode, NodeView, node_rows}
-use Rattle.hg_life.specs.Signing.{Accepts, accepts_by}
+use Rattle.hg_life.specs.NodeView.{IsNode, NodeView, node_rows, terms_of}
+use Rattle.hg_life.specs.Signing.{accepts_by}
+use Rattle.hg_life.specs.Terms.{Terms}
 use Rattle.hg_life.specs.Spelling.{spelling}
 use Rattle.hg_history.proofs.RuleLaws.{taken_is}
 use Rattle.hg_mail.specs.declared.message.Message.{Message}
@@ -73,13 +74,13 @@ module _ (own : ℕ) (G : List Row) (row : Row) where
   by_itself : row.creator ≡ own → rows_by own (G ++ row ∷ []) ≡ rows_by own G + 1
   by_itself is = let one : one_if row ≡ 1 = ap (λ (b : Bool). cond b 1 0) (eq-eqb row.creator own is) in omega (arith, by_push, one)
 
-module _ (accepts : Accepts) (n : Stakes) (c own : ℕ) where
-  own_from : (s : State) (h : List Change) → AreSteps accepts n c own s h → rows_by own (fold (step n c) s h).rows ≡ rows_by own s.rows + made_in h
+module _ (terms : Terms) (n : Stakes) (c own : ℕ) where
+  own_from : (s : State) (h : List Change) → AreSteps terms n c own s h → rows_by own (fold (step n c) s h).rows ≡ rows_by own s.rows + made_in h
   own_from s [] steps = let none : made_in [] ≡ 0 = refl in omega (arith, none)
   own_from s (Took row ∷ h) steps =
       let rest : rows_by own (fold (step n c) (with_row n s row) h).rows ≡ rows_by own (s.rows ++ row ∷ []) + made_in h = own_from (with_row n s row) h steps.1 in
       let more : made_in (Took row ∷ h) ≡ 0 + made_in h = made_cons (Took row) h in
-      omega (arith, rest, more, by_other own s.rows row (taken_is accepts n own s.rows row steps.0).by_other)
+      omega (arith, rest, more, by_other own s.rows row (taken_is terms n own s.rows row steps.0).by_other)
   own_from s (Made row ∷ h) steps =
       let rest : rows_by own (fold (step n c) (with_row n s row) h).rows ≡ rows_by own (s.rows ++ row ∷ []) + made_in h = own_from (with_row n s row) h steps.1 in
       let more : made_in (Made row ∷ h) ≡ 1 + made_in h = made_cons (Made row) h in
@@ -89,7 +90,7 @@ module _ (accepts : Accepts) (n : Stakes) (c own : ℕ) where
       let more : made_in (Marked len share ∷ h) ≡ 0 + made_in h = made_cons (Marked len share) h in
       omega (arith, rest, more)
 
-  own_made : (h : List Change) → AreSteps accepts n c own empty h → rows_by own (replay n c h).rows ≡ made_in h
+  own_made : (h : List Change) → AreSteps terms n c own empty h → rows_by own (replay n c h).rows ≡ made_in h
   unfolding replay
   own_made h steps =
       let all : rows_by own (fold (step n c) empty h).rows ≡ rows_by own [] + made_in h = own_from empty h steps in
@@ -97,7 +98,7 @@ module _ (accepts : Accepts) (n : Stakes) (c own : ℕ) where
       omega (arith, all, none)
 
   -- the first of some changes may come
-  steps_first : (at : ℕ) (s : State) (h : List Change) → AreSteps accepts n c own s h → AreSteps accepts n c own s (take at h)
+  steps_first : (at : ℕ) (s : State) (h : List Change) → AreSteps terms n c own s h → AreSteps terms n c own s (take at h)
   steps_first zero s h steps = tt
   steps_first (suc at) s [] steps = tt
   steps_first (suc at) s (e ∷ h) steps = (steps.0, steps_first at (step n c s e) h steps.1)
@@ -223,7 +224,7 @@ module _ (plan : Plan) (mails : List MailboxView) (k : ℕ) (p : SharedNode Secr
   rows_and_idle : rows_by node.start.own (node_rows node) + j.desk.log.idle ≡ turns_of plan k
   rows_and_idle =
       let h : List Change = node.history in
-      let all : rows_by node.start.own (node_rows node) ≡ made_in h = own_made (accepts_by node.start.keys) node.start.members node.start.coin node.start.own h lawful.history.steps in
+      let all : rows_by node.start.own (node_rows node) ≡ made_in h = own_made (terms_of accepts_by node.start) node.start.members node.start.coin node.start.own h lawful.history.steps in
       let those : count_by (is_made_in h) j.desk.seat.mine ≡ made_in h = made_all (length h) h j.desk.seat.mine (omega arith) below own_change in
       let early : count_by (is_made_in h) j.desk.seat.mine ≡ rows_made j.desk.seat = made_front j.desk.seat.seen h j.desk.seat.mine its_end.later done.stands.seat.within in
       let counted : rows_made j.desk.seat + j.desk.log.idle ≡ turns_of plan k = done.stands.rows in
@@ -235,7 +236,7 @@ module _ (plan : Plan) (mails : List MailboxView) (k : ℕ) (p : SharedNode Secr
       let h : List Change = node.history in
       let n = node.start in
       let all : own_rows node at ≡ made_in (take at h) =
-      own_made (accepts_by n.keys) n.members n.coin n.own (take at h) (steps_first (accepts_by n.keys) n.members n.coin n.own at empty h lawful.history.steps) in
+      own_made (terms_of accepts_by n) n.members n.coin n.own (take at h) (steps_first (terms_of accepts_by n) n.members n.coin n.own at empty h lawful.history.steps) in
       let those : count_by (is_made_in (take at h)) j.desk.seat.mine ≡ made_in (take at h) =
       made_all (length h) (take at h) j.desk.seat.mine (omega (arith, length-take at h)) below (λ q low made. own_change q low (made_then at h q made)) in
       all ∙ (sym those ∙ ap (λ (l : List Change). count_by (is_made_in l) j.desk.seat.mine) (sym (take_later at j.desk.seat.seen h inside its_end.later)))

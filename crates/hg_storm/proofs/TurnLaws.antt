@@ -172,7 +172,8 @@ module _ (plan : Plan) (place : ℕ) (mails : List MailboxView) (p : SharedNode 
     inbox = λ m'. subst (λ (x : MailboxView). IsInbox x log_now.intake.taken.items inbox_now) (m_is ∙ get_or_default mails me m m' old.me) box;
     alone = count ∙ old.alone;
     served = subst (λ (ds : List Dispatch). HasServedAll plan me place drawn (bytes_seen p u) mails ds ports) (sym dispatches) (all_later plan me place p s u first drawn mails log.dispatches.items ports old.served);
-    some = λ _. some_rows p t u (made + 1) has.answer has.next;
+    room = old.room;
+    some = λ _. some_rows p t u (made + 1) has.answer has.next old.room;
     rows = rows_now;
     idle = idle_all;
     ended = λ _. ended_now;
@@ -265,6 +266,7 @@ serves_none plan place mails p drawn made me log s ports inbox none old =
         each = λ k m d q inside. served_other plan me place drawn (bytes_seen p s) k (get_or mails k m) (get_or log.dispatches.items k d) (get_or ports k q)
             (λ d. absurd (omega (arith, d.draws.others, none))) (all.each k m d q inside);
       };
+      room = old.room;
       some = old.some;
       rows = old.rows;
       idle = old.idle;
@@ -343,6 +345,7 @@ module _ (plan : Plan) (place : ℕ) (mails : List MailboxView) (p : SharedNode 
       ports = length-set ports k r ∙ old.served.ports;
       each = rw dispatches served_at;
     };
+    room = old.room;
     some = λ some. omega (arith, old.some some, rows_longer p s t still.seen);
     rows = rw idle (ap (λ (n : ℕ). n + log.idle) (no_row_more s t still.seen adds_none) ∙ old.rows);
     idle = rw idle (idle_later (node_at p.start s.seen) sent_after refl still.seen 0 0 (drawn + 1) log.idle old.idle);

@@ -58,6 +58,10 @@ module _ (members : MemberList) where
       get_or-map (λ (s : Site). s.node) (new_world members).sites m no_site d (omega (arith, inside, begun_count, long))
       ∙ ap (λ (s : Site). s.node) (get_or-map-range_with_len (new_site members) 0 count m m no_site (omega (arith, inside, begun_count)) (zero-add m))
 
+  -- each node has room for a row
+  pub begun_room : (nodes : List (NodeView Secrets)) → nodes ≡ begun → All (λ (v : NodeView Secrets). 0 < v.start.limit) nodes
+  begun_room nodes is = subst (All (λ (v : NodeView Secrets). 0 < v.start.limit)) (sym is) (λ m d inside. subst (λ (v : NodeView Secrets). 0 < v.start.limit) (sym (begun_at m d inside)) (omega arith))
+
   -- no node has a history
   pub begun_empty : (nodes : List (NodeView Secrets)) → nodes ≡ begun → All (λ (v : NodeView Secrets). v.history ≡ []) nodes
   begun_empty nodes is = subst (All (λ (v : NodeView Secrets). v.history ≡ [])) (sym is) (λ m d inside. ap (λ (v : NodeView Secrets). v.history) (begun_at m d inside))

@@ -158,6 +158,7 @@ pub record Standing (plan : Plan) (place : ℕ) (mails : List MailboxView) (p : 
   pub inbox : (m : MailboxView) → IsInbox (get_or mails own m) log.intake.taken.items box
   pub alone : box.count ≡ one_part
   pub served : HasServedAll plan own place drawn (bytes_seen p s) mails log.dispatches.items qs
+  pub room : 0 < p.start.start.limit
   pub some : 0 < made → 0 < length (bytes_seen p s)
   pub rows : rows_made s + log.idle ≡ made
   pub idle : AreIdle p s.seen made log.idle

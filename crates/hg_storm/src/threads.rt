@@ -40,6 +40,7 @@ pub fn run_threads<C: Crew + Sync, G: Gate + Sync, R: Threads + Wait + Sync>(
     requires room { 0 < room }
     requires few { length nodes.items ≤ 128 }
     requires new { All (λ v. v.history ≡ []) nodes.items }
+    requires limits { All (λ v. 0 < v.start.limit) nodes.items }
     requires circle { IsCircle (length nodes.items) plan.now }
     ensures session { IfOk result (λ r. HasSession nodes.items r.nodes.items) }
     ensures told { IfOk result (λ r. AreTold plan.now room r.nodes.items r.logs.items r.left.items) }

@@ -12,7 +12,7 @@ use Rattle.hg_model.specs.Orders.{IsPrefix}
 use Rattle.hg_model.specs.Places.{list_below}
 use Rattle.hg_life.specs.Signing.{Accepts}
 use Rattle.hg_life.specs.Verdict.{last_name}
-use Rattle.hg_life.specs.NodeView.{IsNode, NodeView, node_rows}
+use Rattle.hg_life.specs.NodeView.{IsNode, NodeView, node_rows, terms_of}
 use Rattle.hg_life.proofs.LastLaws.{last_found}
 use Rattle.hg_history.specs.Laws.{IsNodeGraph}
 use Rattle.hg_history.proofs.HeldLaws.{held_longer}
@@ -64,8 +64,8 @@ few_listed value (suc n) test =
 -- ---- what nodes say
 
 -- a node's rows are a graph of events
-graph_of : {K : Type 0} (accepts : K → Accepts) (v : NodeView K) → IsNode accepts v → IsNodeGraph (accepts v.start.keys) v.start.members v.start.own (node_rows v)
-graph_of accepts v node = node_graph (accepts v.start.keys) v.start.members v.start.coin v.start.own v.history node.coin node.history
+graph_of : {K : Type 0} (accepts : K → Accepts) (v : NodeView K) → IsNode accepts v → IsNodeGraph (terms_of accepts v.start) v.start.members v.start.own (node_rows v)
+graph_of accepts v node = node_graph (terms_of accepts v.start) v.start.members v.start.coin v.start.own v.history node.coin node.history
 
 pub asks_fit : (K : Type 0) → AsksFit K
 unfolding tips
@@ -73,7 +73,8 @@ asks_fit K accepts v node =
     let G = node_rows v in
     let graph = graph_of accepts v node in
     let test : ℕ → Bool = λ x. not (is_parent (links G) x) in
-    (omega (arith, graph.few, few_listed (name_at G) (length G) test), all_listed IsName (name_at G) (length G) test graph.sizes.sized)
+    let limit = node.limit in
+    (omega (arith, graph.few, limit, few_listed (name_at G) (length G) test), all_listed IsName (name_at G) (length G) test graph.sizes.sized)
 
 last_named : (own : ℕ) (G : List Row) (last : Option (List ℕ)) → ((x : ℕ) → x < length G → length (name_at G x) ≡ 48) → last_name own G ≡ last → IfSome last IsName
 last_named own G None sized is = tt
@@ -86,8 +87,9 @@ unfolding bytes_beyond
 answers_fit L accepts names v node =
     let G = node_rows v in
     let graph = graph_of accepts v node in
+    let limit = node.limit in
     let test : ℕ → Bool = λ x. not (is_behind_some G names x) in (
-      omega (arith, graph.few, few_listed (bytes_at G) (length G) test),
+      omega (arith, graph.few, limit, few_listed (bytes_at G) (length G) test),
       all_listed IsEvent (bytes_at G) (length G) test (λ x low. (get_or G x no_row, (graph.events x (get_or G x no_row) (slice_get-get_or G x no_row low)).spelled)),
       last_named v.start.own G (last_name v.start.own G) graph.sizes.sized refl,
     )

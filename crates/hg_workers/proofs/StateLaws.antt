@@ -16,7 +16,7 @@ use Rattle.hg_model.specs.Orders.{AreFame, IsPrefix}
 use Rattle.hg_model.specs.Shares.{Share, early_fame, found_in, is_of_share, share_fame}
 use Rattle.hg_life.specs.History.{Change, State, news, new_mark, replay, with_marks}
 use Rattle.hg_life.specs.History.Change.{Marked}
-use Rattle.hg_life.specs.NodeView.{NodeView, IsNode, node_marks, node_rows, node_state, with_changes}
+use Rattle.hg_life.specs.NodeView.{NodeView, IsNode, node_marks, node_rows, node_state, with_changes, terms_of}
 use Rattle.hg_life.specs.Calls.{publish_answer, publish_changes}
 use Rattle.hg_life.specs.Signing.{Accepts}
 use Rattle.hg_model.proofs.LongerLaws.{IsLonger, is_witness-longer, longer-append}
@@ -120,15 +120,16 @@ marked_later n c a b =
     (λ x low is. (let mark = some_of (mark_at s.marks x) is in ap is_some (marks_stay n c a b x mark.0 mark.1)))
 
 module _ {K : Type 0} (accepts : K → Accepts) (v : NodeView K) (node : IsNode accepts v) where
-  pub node_sound : IsSound (accepts v.start.keys) v.start.members v.start.coin v.start.own (node_state v)
-  node_sound = sound (accepts v.start.keys) v.start.members v.start.coin v.start.own v.history node.coin node.history
+  pub node_sound : IsSound (terms_of accepts v.start) v.start.members v.start.coin v.start.own (node_state v)
+  node_sound = sound (terms_of accepts v.start) v.start.members v.start.coin v.start.own v.history node.coin node.history
 
   -- a node has few marks
-  pub few_marks : marked (node_marks v) ≤ 16384
+  pub few_marks : marked (node_marks v) ≤ 1048576
   unfolding marked
   few_marks =
       let s = node_sound in
-      omega (arith, count_below-le (length (node_marks v)) (λ x. is_some (mark_at (node_marks v) x)), s.even.marks, s.few)
+      let limit = node.limit in
+      omega (arith, limit, count_below-le (length (node_marks v)) (λ x. is_some (mark_at (node_marks v) x)), s.even.marks, s.few)
 
 -- what a publication leaves as marks
 module _ {K : Type 0} (v : NodeView K) (len : ℕ) (share : Share) (within : len ≤ length (node_rows v)) where

@@ -20,7 +20,7 @@ use Rattle.hg_life.specs.Signing.{Accepts, accepts_by, hmac_sha512, signature_by
 use Rattle.hg_life.specs.Verdict.{made_row, row_verdict}
 use Rattle.hg_life.specs.History.{Change}
 use Rattle.hg_life.specs.History.Change.{Took, Made}
-use Rattle.hg_life.specs.NodeView.{NodeView, IsNode, node_rows, with_changes}
+use Rattle.hg_life.specs.NodeView.{NodeView, IsNode, node_rows, with_changes, terms_of}
 use Rattle.hg_life.specs.Calls.{make_answer, make_body, make_changes, made_by, put_changes, taken_by, taken_from}
 use Rattle.hg_model.proofs.LongerLaws.{slice_get-append}
 use Rattle.hg_model.proofs.PushLaws.{slice_get-last}
@@ -58,7 +58,7 @@ module _ (v : NodeView Secrets) where
 
   module _ (node : IsNode accepts_by v) where
     abbrev here : Row → PutAnswer
-    here row = row_verdict (accepts_by v.start.keys) v.start.members v.start.own (node_rows v) row
+    here row = row_verdict (terms_of accepts_by v.start) v.start.members v.start.own (node_rows v) row
 
     same_node : IsNode accepts_by (with_changes v [])
     same_node = subst (IsNode accepts_by) (sym (with_none v [] refl)) node
@@ -68,7 +68,7 @@ module _ (v : NodeView Secrets) where
     put_by row (Refused f) is events = same_node
     put_by row (Accepted p) is events = node_with accepts_by v (Took row) node (record {
       spelled = last_event (node_rows v) row (subst AreEvents (rows_took row) events);
-      accepted = is ∙ ap (λ (k : ℕ). Accepted k) (accepted_place (accepts_by v.start.keys) v.start.members v.start.own (node_rows v) row p is);
+      accepted = is ∙ ap (λ (k : ℕ). Accepted k) (accepted_place (terms_of accepts_by v.start) v.start.members v.start.own (node_rows v) row p is);
     })
 
     put_read : (read : Result Row ByteFault) → AreEvents (node_rows (with_changes v (taken_from accepts_by v read))) → IsNode accepts_by (with_changes v (taken_from accepts_by v read))
@@ -213,4 +213,4 @@ pub worlds_have_events : (w : WorldView) → IsWorld w → HaveEvents w
 worlds_have_events w is m low =
     let v = node_at w m in
     let node = (is.sites m low).node in
-    spelled_at (accepts_by v.start.keys) (node_rows v) (sound (accepts_by v.start.keys) v.start.members v.start.coin v.start.own v.history node.coin node.history).events
+    spelled_at (accepts_by v.start.keys) (node_rows v) (sound (terms_of accepts_by v.start) v.start.members v.start.coin v.start.own v.history node.coin node.history).events

@@ -15,7 +15,7 @@ use Rattle.hg_life.specs.Spelling.{Spells, spelling}
 use Rattle.hg_life.specs.Reading.{read_event}
 use Rattle.hg_life.specs.History.{Change, State}
 use Rattle.hg_life.specs.History.Change.{Took}
-use Rattle.hg_life.specs.NodeView.{NodeView, IsNode, node_rows, with_changes}
+use Rattle.hg_life.specs.NodeView.{NodeView, IsNode, node_rows, with_changes, terms_of}
 use Rattle.hg_life.specs.Calls.{put_answer, put_changes}
 use Rattle.hg_event.proofs.Spells.{Spells-read_event}
 use Rattle.hg_history.specs.Laws.{IsEvent}
@@ -112,7 +112,7 @@ pulled_all v peer events now counts node is counted all =
     let counted_all : (fold (take_event accepts_by) start (map spelling missing)).counts.taken ≡ length missing =
     sym (ap (λ (t : Taking Secrets). t.counts.taken) end) ∙ (all ∙ (ap length is ∙ length-map missing spelling)) in
     let number : (fold (take_event accepts_by) start (map spelling missing)).counts.taken ≡ 0 + length missing = omega (arith, counted_all) in
-    let rows = (sound accepts peer.start.members peer.start.coin peer.start.own peer.history node.coin node.history).events in
+    let rows = (sound (terms_of accepts_by peer.start) peer.start.members peer.start.coin peer.start.own peer.history node.coin node.history).events in
     subst (λ (u : NodeView Secrets). AreKnown (node_rows u) (node_rows peer)) (sym node_is)
     (known_all (node_rows v) (node_rows (fold (take_event accepts_by) start (map spelling missing)).node) (node_rows peer) (rows_more (map spelling missing) start)
     (all_taken missing accepts start (all_filtered (IsEvent accepts) (λ (row : Row). not (is_held (node_rows v) row.name)) (node_rows peer) rows) number))

@@ -8,7 +8,7 @@ use Rattle.hg_model.specs.Links.{no_row}
 use Rattle.hg_model.specs.Stakes.{member_count}
 use Rattle.hg_life.specs.Signing.{accepts_by}
 use Rattle.hg_life.specs.Spelling.{body_of}
-use Rattle.hg_life.specs.NodeView.{NodeView, Start, IsNode, node_rows}
+use Rattle.hg_life.specs.NodeView.{NodeView, Start, IsNode, node_rows, terms_of}
 use Rattle.hg_model.proofs.LinkLaws.{creator-links, length-links}
 use Rattle.hg_history.specs.Laws.{IsEvent}
 use Rattle.hg_history.proofs.SoundLaws.{sound}
@@ -35,7 +35,7 @@ signed_events start (row ∷ rows) events fit = (
 
 signed_own : (v : NodeView Secrets) → IsNode accepts_by v → AreSigned accepts_by v.start (node_rows v)
 signed_own v node =
-    let s = sound (accepts_by v.start.keys) v.start.members v.start.coin v.start.own v.history node.coin node.history in
+    let s = sound (terms_of accepts_by v.start) v.start.members v.start.coin v.start.own v.history node.coin node.history in
     signed_events v.start (node_rows v) s.events
     (λ x low. subst (λ (m : ℕ). m < member_count v.start.members) (creator-links (node_rows v) x (get_or (node_rows v) x no_row) low (get_or_default (node_rows v) x no_row (get_or (node_rows v) x no_row) low))
     (s.graph.shaped.members x (omega (arith, low, length-links (node_rows v)))))

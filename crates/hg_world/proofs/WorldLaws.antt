@@ -7,7 +7,7 @@ use Rattle.hg_model.specs.Stakes.{Stakes}
 use Rattle.hg_life.specs.Signing.{accepts_by}
 use Rattle.hg_life.specs.History.{Change, IsHistory}
 use Rattle.hg_model.specs.Shares.{whole}
-use Rattle.hg_life.specs.NodeView.{NodeView, IsNode, node_rows, with_changes}
+use Rattle.hg_life.specs.NodeView.{NodeView, IsNode, node_rows, with_changes, terms_of}
 use Rattle.hg_history.proofs.StateLaws.{rows_grow}
 use Rattle.hg_runs.specs.Safety.{IsSafe}
 use Rattle.hg_runs.proofs.SafetyLaws.{runs_safe}
@@ -19,14 +19,14 @@ use Rattle.hg_world.specs.Parts.{KeepsSite, IsWorld}
 
 -- of the orders that any two of the nodes keep at any two moments one is a prefix of the other, under the premises
 pub safe : (w : WorldView) → IsWorld w → IsSafe w.members w.coin (run_of w)
-safe w is = runs_safe (λ m. accepts_by (node_at w m).start.keys) w.members w.coin (run_of w) (record {
+safe w is = runs_safe (λ m. terms_of accepts_by (node_at w m).start) w.members w.coin (run_of w) (record {
   coin = is.coin;
   histories = λ m low. (
       let site : KeepsSite w is.keys m (site_at w m) = is.sites m (omega (arith, low, is.count)) in
       let v = node_at w m in
-      subst (λ (k : ℕ). IsHistory (accepts_by v.start.keys) w.members w.coin k v.history) site.is.own
-      (subst (λ (c : ℕ). IsHistory (accepts_by v.start.keys) w.members c v.start.own v.history) site.is.coin
-      (subst (λ (n : Stakes). IsHistory (accepts_by v.start.keys) n v.start.coin v.start.own v.history) site.is.members site.node.history)));
+      subst (λ (k : ℕ). IsHistory (terms_of accepts_by v.start) w.members w.coin k v.history) site.is.own
+      (subst (λ (c : ℕ). IsHistory (terms_of accepts_by v.start) w.members c v.start.own v.history) site.is.coin
+      (subst (λ (n : Stakes). IsHistory (terms_of accepts_by v.start) n v.start.coin v.start.own v.history) site.is.members site.node.history)));
 })
 
 -- a world with another site

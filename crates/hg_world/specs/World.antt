@@ -40,7 +40,7 @@ new_world members = record { members = stakes_of members; coin = members.coin; s
 
 -- the site of member m; one without rows for a number that is no member's
 abbrev pub no_site : Site
-no_site = site_of (record { start = record { own = 0; members = []; coin = 0; balances = []; keys = [] }; history = [] }) []
+no_site = site_of (record { start = record { own = 0; members = []; coin = 0; balances = []; limit = 0; keys = [] }; history = [] }) []
 
 abbrev pub site_at : WorldView → ℕ → Site
 site_at w m = slice_index_or w.sites m no_site

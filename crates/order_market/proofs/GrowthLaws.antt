@@ -9,7 +9,8 @@ use Rattle.hg_model.specs.Stakes.{Stakes}
 use Rattle.hg_model.specs.Links.{no_row}
 use Rattle.hg_life.specs.Kept.{kept}
 use Rattle.hg_life.specs.History.{Change, IsHistory, replay}
-use Rattle.hg_life.specs.Signing.{Accepts, accepts_by}
+use Rattle.hg_life.specs.Signing.{accepts_by}
+use Rattle.hg_life.specs.Terms.{Terms}
 use Rattle.hg_model.specs.Orders.{IsPrefix}
 use Rattle.hg_model.proofs.OrderLaws.{ordered_within}
 use Rattle.hg_history.proofs.StateLaws.{even_after, rows_grow}
@@ -25,6 +26,7 @@ use Rattle.hg_world.proofs.GrowthLaws.{steps_grown, steps_members}
 use Rattle.order_match.specs.Books.{BookView, Event}
 use Rattle.order_market.specs.declared.action.Action.{Action}
 use Rattle.order_market.specs.Market.{AreBehind, HasBooks, action_steps, after_action, event_in, events_after, events_at, is_action_of}
+use Rattle.hg_life.specs.NodeView.{terms_of}
 
 -- ---- the events of an order
 
@@ -40,11 +42,11 @@ rows_leave G more (p ∷ order) within =
     (get_or_append_left G more no_row p.place (All-head (λ (q : Placed). q.place < length G) p order within))
     (rows_leave G more order (All-tail (λ (q : Placed). q.place < length G) p order within))
 
-events_grow : (accepts : Accepts) (n : Stakes) (c own : ℕ) (a b : List Change) → 2 < c → IsHistory accepts n c own (a ++ b) → IsPrefix (events_after n c a) (events_after n c (a ++ b))
-events_grow accepts n c own a b three is =
+events_grow : (terms : Terms) (n : Stakes) (c own : ℕ) (a b : List Change) → 2 < c → IsHistory terms n c own (a ++ b) → IsPrefix (events_after n c a) (events_after n c (a ++ b))
+events_grow terms n c own a b three is =
     let s = replay n c a in
     let t = replay n c (a ++ b) in
-    let order = order_grows accepts n c own a b three is in
+    let order = order_grows terms n c own a b three is in
     let rows = rows_grow n c a b in (
       map (event_in t.rows) order.0,
       ap (map (event_in t.rows)) order.1
@@ -54,13 +56,13 @@ events_grow accepts n c own a b three is =
     )
 
 -- a member's node in a world has a history
-pub history_at : (w : WorldView) → (is : IsWorld w) → (m : ℕ) → m < length w.sites → IsHistory (accepts_by (node_at w m).start.keys) w.members w.coin m (node_at w m).history
+pub history_at : (w : WorldView) → (is : IsWorld w) → (m : ℕ) → m < length w.sites → IsHistory (terms_of accepts_by (node_at w m).start) w.members w.coin m (node_at w m).history
 history_at w is m low =
     let site : KeepsSite w is.keys m (site_at w m) = is.sites m low in
     let v = node_at w m in
-    subst (λ (k : ℕ). IsHistory (accepts_by v.start.keys) w.members w.coin k v.history) site.is.own
-    (subst (λ (c : ℕ). IsHistory (accepts_by v.start.keys) w.members c v.start.own v.history) site.is.coin
-    (subst (λ (n : Stakes). IsHistory (accepts_by v.start.keys) n v.start.coin v.start.own v.history) site.is.members site.node.history))
+    subst (λ (k : ℕ). IsHistory (terms_of accepts_by v.start) w.members w.coin k v.history) site.is.own
+    (subst (λ (c : ℕ). IsHistory (terms_of accepts_by v.start) w.members c v.start.own v.history) site.is.coin
+    (subst (λ (n : Stakes). IsHistory (terms_of accepts_by v.start) n v.start.coin v.start.own v.history) site.is.members site.node.history))
 
 -- what a node orders after steps begins with what it ordered before
 events_go_on : (w u : WorldView) (steps : List Step) → u ≡ after_steps w steps → IsWorld u → (m : ℕ) → m < length w.sites → IsPrefix (events_at w m) (events_at u m)
@@ -69,8 +71,8 @@ events_go_on w u steps later is m low =
     let inside : m < length u.sites = omega (arith, low, ap (λ (x : WorldView). length x.sites) later, steps_sites w steps) in
     let members : u.members ≡ w.members = ap (λ (x : WorldView). x.members) later ∙ (steps_members w steps).0 in
     let period : u.coin ≡ w.coin = ap (λ (x : WorldView). x.coin) later ∙ (steps_members w steps).1 in
-    let history = subst (IsHistory (accepts_by (node_at u m).start.keys) u.members u.coin m) grown.1 (history_at u is m inside) in
-    let prefix = events_grow (accepts_by (node_at u m).start.keys) u.members u.coin m (node_at w m).history grown.0 is.coin history in
+    let history = subst (IsHistory (terms_of accepts_by (node_at u m).start) u.members u.coin m) grown.1 (history_at u is m inside) in
+    let prefix = events_grow (terms_of accepts_by (node_at u m).start) u.members u.coin m (node_at w m).history grown.0 is.coin history in
     let front : events_after u.members u.coin (node_at w m).history ≡ events_at w m = ap₂ (λ (n : Stakes) (c : ℕ). events_after n c (node_at w m).history) members period in (
       prefix.0,
       ap (events_after u.members u.coin) grown.1 ∙ (prefix.1 ∙ ap (λ (events : List Event). events ++ prefix.0) front),

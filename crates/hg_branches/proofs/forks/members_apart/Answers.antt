@@ -1,22 +1,40 @@
-use Rattle.std.proofs.Common.{◌≡◌, ◌∙◌, sym, ap, ◌&&◌, nat_lt, slice_index, length, eqb, arith}
-use Rattle.std.proofs.lemmas.Bool.{le-ltb}
-use Rattle.std.proofs.lemmas.List.{get_or_past}
+use Rattle.std.proofs.Common.{◌≡◌, ◌∙◌, sym, ap, ap₂, ◌||◌, ◌&&◌, nat_lt, ℕ, Bool, slice_index, length, eqb, arith}
+use Rattle.hg_bits.specs.Masks.{mask_has}
 use Rattle.hg_bits.proofs.MaskLaws.{mask_none}
+use Rattle.hg_model.specs.Places.{some_below}
+use Rattle.std.proofs.lemmas.Bool.{le-ltb}
 use Rattle.hg_model.proofs.PlacesLaws.{some_below_zero}
-use Rattle.hg_branches.proofs.RowLaws.{some_below-longer}
+use Rattle.hg_branches.proofs.RowLaws.{some_below-next}
 use Rattle.hg_branches.proofs.forks.members_apart.Goals as goal
 
 pub loop-b-init : goal.loop-b-init
-loop-b-init c = λ m. mask_none m ∙ sym (some_below_zero (λ b. nat_lt (slice_index c.args.other.now.row b) (slice_index c.args.counts.now.row b) && eqb (slice_index c.args.makers.now b) m))
+loop-b-init c =
+    let row = c.args.counts.now.row in
+    let other = c.args.other.now.row in
+    let makers = c.args.makers.now in
+    record {
+      told = λ m. mask_none m ∙ sym (some_below_zero (λ b. nat_lt (slice_index other b) (slice_index row b) && eqb (slice_index makers b) m));
+      inside = omega arith;
+    }
+
+pub loop-b-preserved : goal.loop-b-preserved
+loop-b-preserved c =
+    let row = c.args.counts.now.row in
+    let other = c.args.other.now.row in
+    let makers = c.args.makers.now in
+    record {
+      told = λ m.
+          c.with_if-mask.ensures m
+          ∙ (ap₂ (λ (a d : ℕ). mask_has c.loop-b.mask m || (nat_lt a d && eqb (slice_index makers c.loop-b.b) m)) c.at.ensures c.at-in-loop-b.ensures) ∙ (ap (λ (t : Bool). t || (nat_lt (slice_index other c.loop-b.b) (slice_index row c.loop-b.b) && eqb (slice_index makers c.loop-b.b) m)) (c.loop-b.invariant.told m)
+          ∙ some_below-next c.loop-b.b c.next_after-b.result (λ b. nat_lt (slice_index other b) (slice_index row b) && eqb (slice_index makers b) m) c.next_after-b.ensures.later
+          (λ b past before. let none : slice_index row b ≡ 0 = c.next_after-b.ensures.between b past before in ap (λ (more : Bool). more && eqb (slice_index makers b) m) (le-ltb (slice_index other b) (slice_index row b) (omega (arith, none)))));
+      inside = c.next_after-b.ensures.within;
+    }
 
 pub returns : goal.returns
 returns c = λ m.
     let row = c.args.counts.now.row in
     let other = c.args.other.now.row in
     let makers = c.args.makers.now in
-    c.loop-b.invariant m
-    ∙ some_below-longer c.loop-b.b (length makers) (λ b. nat_lt (slice_index other b) (slice_index row b) && eqb (slice_index makers b) m)
-    (omega (arith, c.loop-b.auto.b-end, c.reach-b-end.ensures))
-    (λ b past low.
-    let none : slice_index row b ≡ 0 = get_or_past row b 0 (omega (arith, past, low, c.loop-b-test.false, c.reach-b-end.ensures)) in
-    ap (λ more. more && eqb (slice_index makers b) m) (le-ltb (slice_index other b) (slice_index row b) (omega (arith, none))))
+    let all : c.loop-b.b ≡ length makers = omega (arith, c.loop-b.invariant.inside, c.loop-b-test.false) in
+    c.loop-b.invariant.told m ∙ ap (λ (k : ℕ). some_below k (λ b. nat_lt (slice_index other b) (slice_index row b) && eqb (slice_index makers b) m)) all

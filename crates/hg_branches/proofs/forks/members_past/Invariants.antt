@@ -1,8 +1,14 @@
-use Rattle.std.proofs.Common.{◌≡◌, ℕ, ◌&&◌, nat_lt, slice_index, eqb}
+use Rattle.std.proofs.Common.{◌≡◌, ◌≤◌, ◌-◌, ℕ, length, ◌&&◌, nat_lt, slice_index, eqb}
 use Rattle.hg_model.specs.Places.{some_below}
 use Rattle.hg_bits.specs.Masks.{mask_has}
 use Rattle.hg_branches.specs.Columns.{joined_counts}
 use Rattle.hg_branches.proofs.forks.members_past.Given as goal
 
 abbrev pub invariant-loop-b : goal.invariant-loop-b
-invariant-loop-b l = (m : ℕ) → mask_has l.mask m ≡ some_below l.b (λ b. nat_lt (joined_counts l.counts.rows l.first l.others b) (slice_index l.there.row b) && eqb (slice_index l.makers b) m)
+invariant-loop-b l = record {
+  told : (m : ℕ) → mask_has l.mask m ≡ some_below l.b (λ b. nat_lt (joined_counts l.counts.rows l.first l.others b) (slice_index l.there.row b) && eqb (slice_index l.makers b) m);
+  inside : l.b ≤ length l.makers;
+}
+
+abbrev pub decreases-loop-b : goal.decreases-loop-b
+decreases-loop-b l = length l.makers - l.b

@@ -1,4 +1,4 @@
-use Rattle.std.proofs.Common.{◌≡◌, ◌<◌, ◌≤◌, ℕ, length}
+use Rattle.std.proofs.Common.{◌≡◌, ◌<◌, ◌≤◌, ◌-◌, ℕ, length}
 use Rattle.hg_branches.specs.Landmarks.{landmark_at, noted}
 use Rattle.hg_branches.proofs.landmarks.note_others.Given as goal
 
@@ -9,4 +9,8 @@ invariant-loop-c l = record {
       landmark_at l.landmarks i ≡ noted l.counts.row l.next (landmark_at l.initial.landmarks i);
   left : (i : ℕ) → l.c ≤ (landmark_at l.initial.landmarks i).branch → landmark_at l.landmarks i ≡ landmark_at l.initial.landmarks i;
   own : (i : ℕ) → (landmark_at l.initial.landmarks i).branch < l.counts.members → landmark_at l.landmarks i ≡ landmark_at l.initial.landmarks i;
+  past : l.counts.members ≤ l.c;
 }
+
+abbrev pub decreases-loop-c : goal.decreases-loop-c
+decreases-loop-c l = length l.newest - l.c

@@ -1,4 +1,4 @@
-use Rattle.std.proofs.Common.{◌≡◌, ◌≤◌, ◌∙◌, ℕ, List, get_or, ap, sym, subst}
+use Rattle.std.proofs.Common.{◌≤◌, ◌∙◌, ℕ, List, get_or, ap, sym, subst}
 use Rattle.std.specs.List.{AllByRecursion}
 use Rattle.hg_branches.specs.Tails.{tail_width}
 use Rattle.hg_branches.proofs.JoinLaws.{no_tails}

@@ -1,5 +1,6 @@
 use Rattle.std.proofs.Common.{◌≡◌, ◌∙◌, ◌+◌, ◌*◌, ◌<◌, ℕ, List, true, take, ap, ap₂, sym, arith}
 use Rattle.std.proofs.lemmas.Bool.{ltb-true, lt-ltb}
+use Rattle.hg_model.specs.Counts.{numbers_of}
 use Rattle.hg_model.specs.Stakes.{Stakes, member_count, stake_of, stake_where, total}
 use Rattle.hg_model.specs.Seeing.{is_supermajority}
 use Rattle.hg_model.proofs.PlacesLaws.{weight_below-same}
@@ -25,9 +26,9 @@ own_weight n stakes firsts row own members result value same taken wide =
 pub returns-then-is_over : goal.returns-then-is_over
 returns-then-is_over c =
     let n : Stakes = c.args.sight.now.shape.members in
-    let firsts = c.args.firsts.now in
+    let firsts = numbers_of c.args.firsts in
     let row = c.args.counts.now.row in
-    let own = own_weight n c.stakes-stakes.result.now firsts row c.own.result.now c.args.counts.now.members c.weigh_ge-own.result c.weigh_ge-own.ensures.value c.stakes-stakes.ensures c.own.ensures.value
+    let own = own_weight n c.stakes-stakes.result.now firsts row (numbers_of c.own.result) c.args.counts.now.members c.weigh_counts-own.result c.weigh_counts-own.ensures.value c.stakes-stakes.ensures c.own.ensures.value
     (sym c.requires.wide ∙ c.requires.all) in
     let beside : ℕ = stake_where n (others_see c.args.sight.now.shape.links c.args.makers.now firsts row c.args.y) in
     let enough : is_supermajority (total n) (stake_where n (own_sees firsts row)) ≡ true =
@@ -37,9 +38,9 @@ returns-then-is_over c =
 pub returns : goal.returns
 returns c =
     let n : Stakes = c.args.sight.now.shape.members in
-    let firsts = c.args.firsts.now in
+    let firsts = numbers_of c.args.firsts in
     let row = c.args.counts.now.row in
-    let own = own_weight n c.stakes-stakes.result.now firsts row c.own.result.now c.args.counts.now.members c.weigh_ge-own.result c.weigh_ge-own.ensures.value c.stakes-stakes.ensures c.own.ensures.value
+    let own = own_weight n c.stakes-stakes.result.now firsts row (numbers_of c.own.result) c.args.counts.now.members c.weigh_counts-own.result c.weigh_counts-own.ensures.value c.stakes-stakes.ensures c.own.ensures.value
     (sym c.requires.wide ∙ c.requires.all) in
     let seen = others_see c.args.sight.now.shape.links c.args.makers.now firsts row c.args.y in
     let beside : c.weigh-beside.result ≡ stake_where n seen =
@@ -47,5 +48,5 @@ returns c =
     ∙ (ap (λ (s : Stakes). stake_where s (mask_has c.others.result)) c.stakes-stakes.ensures
     ∙ weight_below-same (stake_of n) (member_count n) (mask_has c.others.result) seen (λ m member. c.others.ensures m)) in
     c.is_over-2.ensures
-    ∙ (ap (λ (s : Stakes). is_supermajority (total s) (c.weigh_ge-own.result + c.weigh-beside.result)) c.stakes-stakes.ensures
+    ∙ (ap (λ (s : Stakes). is_supermajority (total s) (c.weigh_counts-own.result + c.weigh-beside.result)) c.stakes-stakes.ensures
     ∙ ap₂ (λ (a b : ℕ). is_supermajority (total n) (a + b)) own beside)

@@ -1,14 +1,13 @@
-use Rattle.std.proofs.Common.{◌≡◌, ◌≢◌, ◌<◌, ◌≤◌, ◌-◌, ℕ, length}
+use Rattle.std.proofs.Common.{◌≡◌, ◌<◌, ◌≤◌, ◌-◌, ◌+◌, ℕ, cond, nat_lt, length}
 use Rattle.hg_model.specs.Graph.{name_at}
-use Rattle.hg_graph.specs.Names.{bucket_at, bucket_of}
+use Rattle.hg_graph.specs.Names.{IsFound}
 use Rattle.hg_graph.proofs.names.find.Given as goal
 
-abbrev pub invariant-chain : goal.invariant-chain
-invariant-chain l = record {
+abbrev pub invariant-down : goal.invariant-down
+invariant-down l = record {
   inside : l.number ≤ length l.hashed;
-  on : 0 < l.number → bucket_at (length l.heads) l.hashed (l.number - 1) ≡ bucket_of (length l.heads) l.hash;
-  none : (x : ℕ) → l.number ≤ x → x < length l.events.items → name_at l.events.items x ≢ l.name;
+  found : (x : ℕ) → x < length l.events.items → name_at l.events.items x ≡ l.name → IsFound l.hashed x l.number l.digits;
 }
 
-abbrev pub decreases-chain : goal.decreases-chain
-decreases-chain l = l.number
+abbrev pub decreases-down : goal.decreases-down
+decreases-down l = cond (nat_lt 0 l.number) (length l.hashed + 1 - l.number) 0

@@ -1,20 +1,26 @@
-use Rattle.std.proofs.Common.{◌<◌, ◌∙◌, ◌+◌, ℕ, List, length, slice_set, sym, ap, subst, arith}
-use Rattle.std.proofs.lemmas.List.{length-set}
-use Rattle.hg_graph.specs.Names.{AreLinked, bucket_at, hashed_at}
-use Rattle.hg_graph.proofs.HashedLaws.{linked_next, hashes_next}
+use Rattle.std.proofs.Common.{◌≡◌, ◌∙◌, ◌+◌, ◌-◌, refl, arith}
+use Rattle.hg_graph.proofs.HashedLaws.{hash_same, linked_entered, linked_none}
 use Rattle.hg_graph.proofs.names.link_all.Goals as goal
+
+pub loop-x-init : goal.loop-x-init
+loop-x-init c = record {
+  same = c.unlink.ensures.same;
+  long = c.unlink.ensures.long;
+  len = refl;
+  linked = linked_none c.args.heads.now c.unlink.new.hashed c.requires.empty c.unlink.ensures.each;
+}
+
+pub enter-requires-clause-later : goal.enter-requires-clause-later
+enter-requires-clause-later c = (let at : c.loop-x.x + 1 - 1 ≡ c.loop-x.x = omega arith in rw at c.loop-x.invariant.linked.later)
 
 pub loop-x-preserved : goal.loop-x-preserved
 loop-x-preserved c =
-    let heads = c.loop-x.heads in
-    let hashed = c.loop-x.hashed in
-    let x : ℕ = c.loop-x.x in
     let held = c.loop-x.invariant in
-    let some : 0 < length heads = (let len = held.len in let first = c.requires.some in omega arith) in
-    let next = linked_next heads hashed x some (omega arith) held.linked in
+    let enters = c.enter.ensures.entered in
+    let last = hash_same c.loop-x.hashed c.enter.new.hashed enters.ways.hashes c.loop-x.x in
     record {
-      same = hashes_next hashed x c.enter-before.result ∙ held.same;
-      len = ap length c.enter-before.ensures.heads ∙ (length-set heads (bucket_at (length heads) hashed x) (x + 1) ∙ held.len);
-      linked = subst (λ (hs : List ℕ). AreLinked hs (slice_set hashed x (record { hash = (hashed_at hashed x).hash; before = c.enter-before.result })) (x + 1)) (sym c.enter-before.ensures.heads)
-          (subst (λ (before : ℕ). AreLinked (slice_set heads (bucket_at (length heads) hashed x) (x + 1)) (slice_set hashed x (record { hash = (hashed_at hashed x).hash; before = before })) (x + 1)) (sym c.enter-before.ensures.before) next);
+      same = enters.ways.hashes ∙ held.same;
+      long = enters.ways.long ∙ held.long;
+      len = c.enter.ensures.len ∙ held.len;
+      linked = linked_entered c.loop-x.heads c.loop-x.hashed c.loop-x.x _ c.enter.new.heads c.enter.new.hashed c.enter.ensures.len held.linked enters last;
     }

@@ -6,7 +6,7 @@ pub returns-clause-graph : goal.returns-clause-graph
 returns-clause-graph c = node_graph
 
 pub returns-clause-links : goal.returns-clause-links
-returns-clause-links c = λ accepts n period own h three is. (sound accepts n period own h three is).linked
+returns-clause-links c = λ terms n period own h three is. (sound terms n period own h three is).linked
 
 pub returns-clause-even : goal.returns-clause-even
 returns-clause-even c = λ n period h. ((even_after n period h).links, (even_after n period h).marks)

@@ -23,4 +23,4 @@ invariant-records g l =
     }
 
 abbrev pub decreases-records : goal.decreases-records
-decreases-records g l = 32769 - length l.node.history
+decreases-records g l = 2097153 - length l.node.history

@@ -1,6 +1,8 @@
 use Rattle.std.proofs.Common.{refl, ◌∙◌, List, ℕ, replicate}
 use Rattle.std.proofs.lemmas.List.{take_more, length-replicate}
 use Rattle.hg_model.specs.Stakes.{member_count}
+use Rattle.hg_order.specs.Swept.{ends_from}
+use Rattle.hg_order.proofs.FromLaws.{no_lines_from}
 use Rattle.hg_order.proofs.SweepLaws.{swept_none, last_none, reach_same}
 use Rattle.hg_order.proofs.sweep.sweep_lanes.Goals as goal
 
@@ -10,8 +12,8 @@ loop-line_row-init g c =
     let n = (g.S.Sight.shape c.args.sight.now).members in
     let reach = reach_same _ _ c.args.low _ c.link_rows.new.timers c.link_rows.ensures.long c.requires.reach in
     let zeros : List ℕ = replicate 128 0 in
-    rw (clear.last, clear.above) (record {
-      swept = swept_none _ c.args.least.now c.args.low c.args.need c.link_rows.new.next c.link_rows.new.timers reach c.link_rows.ensures.linked c.link_rows.ensures.first c.requires.some (member_count n);
+    rw (clear.last, clear.above, no_lines_from c.args.low (member_count n) 128) (record {
+      swept = swept_none _ c.args.least.now c.args.low c.args.need (ends_from c.args.low c.link_rows.new.next) c.link_rows.new.timers reach c.link_rows.ensures.linked c.link_rows.ensures.first c.requires.some (member_count n);
       last = last_none _ c.args.low (member_count n);
       members = length-replicate (member_count n) zeros;
       long = c.link_rows.ensures.long;

@@ -1,5 +1,5 @@
 use Rattle.std.proofs.Common.{arith}
-use Rattle.hg_life.specs.Verdict.{row_limit}
+use Rattle.hg_life.specs.Terms.{row_limit}
 use Rattle.hg_proof.proofs.FrontLaws.{between_end, between_start, few_places}
 use Rattle.hg_proof.proofs.least.least_front.Goals as goal
 

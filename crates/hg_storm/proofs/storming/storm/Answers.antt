@@ -9,7 +9,7 @@ use Rattle.hg_storm.specs.Refusals.{HaveRows, refusals_of}
 use Rattle.hg_storm.specs.Storm.{gathered, world_again}
 use Rattle.hg_storm.proofs.NameLaws.{have_rows, idle_long, refused_long, taken_names}
 use Rattle.hg_storm.proofs.SentLaws.{are_mails}
-use Rattle.hg_storm.proofs.WorldLaws.{begun_count, begun_empty, circle_members, ends_again, ends_many, ends_members, ends_of_one_list, ends_start, is_circle, world_count}
+use Rattle.hg_storm.proofs.WorldLaws.{begun_count, begun_empty, begun_room, circle_members, ends_again, ends_many, ends_members, ends_of_one_list, ends_start, is_circle, world_count}
 use Rattle.hg_storm.proofs.storming.storm.Goals as goal
 
 pub run_threads-requires-clause-few : goal.run_threads-requires-clause-few
@@ -21,6 +21,10 @@ run_threads-requires-clause-few g c κs within =
 pub run_threads-requires-clause-new : goal.run_threads-requires-clause-new
 run_threads-requires-clause-new g c κs within =
     begun_empty c.args.members.now c.into_nodes-first.result.items (c.into_nodes-first.ensures.nodes ∙ ap nodes_of c.in_ok-begun.ensures)
+
+pub run_threads-requires-clause-limits : goal.run_threads-requires-clause-limits
+run_threads-requires-clause-limits g c κs within =
+    begun_room c.args.members.now c.into_nodes-first.result.items (c.into_nodes-first.ensures.nodes ∙ ap nodes_of c.in_ok-begun.ensures)
 
 pub run_threads-requires-clause-circle : goal.run_threads-requires-clause-circle
 run_threads-requires-clause-circle g c κs within =

@@ -1,7 +1,9 @@
-use Rattle.std.proofs.Common.{◌≡◌, ℕ, List, length, sym, ap, ◌∙◌, subst, arith}
+use Rattle.std.proofs.Common.{◌≡◌, ℕ, ◌<◌, get_or, List, length, sym, ap, ◌∙◌, subst, arith}
+use Rattle.hg_crowd.proofs.ListLaws.{some_of}
+use Rattle.hg_life.specs.NodeView.{NodeView}
 use Rattle.hg_life.specs.Signing.{accepts_by}
 use Rattle.hg_mail.specs.Mailboxes.{MailboxView}
-use Rattle.hg_board.specs.Seats.{SharedNode}
+use Rattle.hg_board.specs.Seats.{SeatView, SharedNode}
 use Rattle.hg_crowd.specs.Workers.{AreStarted, AreWhole}
 use Rattle.hg_crowd.specs.Crowd.{AreSeats}
 use Rattle.hg_crowd.proofs.CrowdLaws.{all_started, seats_started}
@@ -46,7 +48,13 @@ take_all_turns-requires-clause-run g c κs within =
     let firsts = c.in_ok-shared.seats.items in
     let started = subst (λ (l : List (SharedNode Secrets)). AreStarted accepts_by nodes l firsts) (sym c.as_slice-places.ensures.value) c.in_ok-shared.ensures in
     let count : length boxes ≡ length nodes = omega (arith, ap length c.as_slice-boxes.ensures.value, c.in_ok-mailboxes.ensures.count, c.len.ensures) in
-    new_jobs_may_run c.args.plan.now boxes places firsts c.in_ok-jobs.jobs.items (started.shared_count ∙ sym count) (seats_started accepts_by nodes places firsts started) c.in_ok-jobs.ensures.jobs
+    let rooms : (k : ℕ) (p : SharedNode Secrets) → k < length places → 0 < (get_or places k p).start.start.limit = λ k p low.
+    let inside : k < length nodes = omega (arith, low, started.shared_count) in
+    let v : NodeView Secrets = some_of nodes k inside in
+    let s : SeatView Secrets = some_of firsts k (omega (arith, inside, started.seats_count)) in
+    subst (λ (x : NodeView Secrets). 0 < x.start.limit) (sym (started.each k v p s inside).start) (c.requires.limits k v inside)
+    in
+    new_jobs_may_run c.args.plan.now boxes places firsts c.in_ok-jobs.jobs.items (started.shared_count ∙ sym count) rooms (seats_started accepts_by nodes places firsts started) c.in_ok-jobs.ensures.jobs
 
 pub take_all_turns-requires-clause-circle : goal.take_all_turns-requires-clause-circle
 take_all_turns-requires-clause-circle g c κs within =

@@ -4,7 +4,7 @@ use Rattle.hg_blocks.proofs.rows.RowBlocks.reserve.Goals as goal
 use Rattle.hg_blocks.proofs.rows.RowBlocks.reserve.Goals.{then-len-whole+then-whole-gt0+in_ok-seal, else-len-whole, else-len-whole-via-then-len-whole+else-whole-gt0, else-len-whole-via-else-len-whole}
 
 pub returns-clause-room : goal.returns-clause-room
-returns-clause-room c =
+returns-clause-room g c =
     let s = c.if-len-whole.self-inside in
     let left : (length s.tail.items + s.width ≤ 64 * s.width) × (s.width ≡ c.self.inside.width) = elim c.if-len-whole.branch [
       | then-len-whole+then-whole-gt0+in_ok-seal w ↦ rw w.self-inside-is (rw w.in_ok-seal.ensures.empty (omega arith), refl)

@@ -12,12 +12,13 @@ invariant_of-result c = record {
       (ap length c.in_ok-zeros.ensures ∙ length-replicate _ 0) c.in_ok-own_branches.ensures.own);
   counts = rw (c.in_ok-new.ensures, c.new-2.ensures, c.new-3.ensures, c.new-4.ensures.rows) (counts_none c.args.stakes.now c.in_ok-own_branches.field-0.items);
   forks = rw (c.new-2.ensures, c.new-5.ensures) forks_none;
-  landmarks = rw (c.in_ok-new.ensures, c.new-2.ensures, c.new-3.ensures, c.new-6.ensures.items, c.new-7.ensures.items)
+  landmarks = rw (c.in_ok-new.ensures, c.new-2.ensures, c.new-3.ensures, c.new-6.ensures.items, c.new-8.ensures.items)
       (landmarks_none c.args.stakes.now [] [] c.in_ok-own_branches.field-0.items c.in_ok-zeros-2.field-0.items
       (c.in_ok-zeros-2.ensures ∙ ap (λ k. replicate k 0) (sym c.in_ok-own_branches.ensures.len)));
   counts_members = c.new-4.ensures.members ∙ ap member_count (sym c.in_ok-new.ensures);
   tops = rw c.new-6.ensures.items (λ i h. absurd (omega arith));
-  tops_all = ap length c.in_ok-zeros-3.ensures ∙ (length-replicate _ 0 ∙ sym c.in_ok-own_branches.ensures.len);
+  tops_all = ap length c.in_ok-new-2.ensures ∙ (length-replicate _ 0 ∙ sym c.in_ok-own_branches.ensures.len);
+  widths = λ i h. (let none = ap length c.new-6.ensures.items in absurd (omega arith));
   spare = tt;
   rows_room = rw c.new-2.ensures (omega arith);
   links_room = omega arith;

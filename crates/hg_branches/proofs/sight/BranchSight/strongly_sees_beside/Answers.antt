@@ -5,6 +5,7 @@ use Rattle.hg_model.specs.Forks.{has_fork_below}
 use Rattle.hg_model.specs.Seeing.{strongly_sees, sees_through, is_supermajority}
 use Rattle.hg_model.specs.Shape.{ShapeWithRoom, shape_of}
 use Rattle.hg_model.proofs.PlacesLaws.{weight_below-same}
+use Rattle.hg_model.specs.Counts.{numbers_of}
 use Rattle.hg_bits.specs.Masks.{mask_has}
 use Rattle.hg_ancestry.proofs.SeerLaws.{strong_by_members, strong_above}
 use Rattle.hg_branches.specs.Rows.{RowView}
@@ -50,7 +51,7 @@ returns-then-slot-gt0 c =
     let found = held.landmarks.by_place y (let some = c.if-slot-gt0.true in omega arith) in
     let slot : ℕ = slice_index s.numbers.items y - 1 in
     let k = landmark_at s.landmarks.items slot in
-    let firsts : c.firsts_at-firsts.result.now ≡ k.firsts = c.firsts_at-firsts.ensures ∙ ap₂ (λ (landmarks : List LandmarkView) (j : ℕ). (landmark_at landmarks (j - 1)).firsts) c.deref-then-slot-gt0.ensures.value number in
+    let firsts : numbers_of c.firsts_at-firsts.result ≡ k.firsts = c.firsts_at-firsts.ensures ∙ ap₂ (λ (landmarks : List LandmarkView) (j : ℕ). (landmark_at landmarks (j - 1)).firsts) c.deref-then-slot-gt0.ensures.value number in
     let free : has_fork_below s.links.items x (creator s.links.items y) ≡ false =
     subst (λ (g : ShapeWithRoom). has_fork_below g.shape.links x (creator g.shape.links y) ≡ false) (sym c.self.view_is)
     (ap (has_fork_below c.args.self.now.shape.links x) (sym c.creator-member.ensures.value) ∙ (sym (c.forked_below.ensures c.creator-member.result) ∙ (sym c.mask_has.ensures ∙ c.if-not-mask_has.true))) in
@@ -64,7 +65,7 @@ returns-then-slot-gt0 c =
     (λ m h. on_other_is s.stakes s.links.items s.branches.items s.makers.items s.ends.items held.branches s.counts.rows held.counts x y left free k holds is_y m) in
     subst (λ (g : ShapeWithRoom). c.strong_by_firsts.result ≡ strongly_sees g.shape.members g.shape.links x y) c.self.view_is
     (c.strong_by_firsts.ensures
-    ∙ (ap (λ (ms : List ℕ). is_strong_by_firsts c.args.self.now.shape ms c.firsts_at-firsts.result.now c.row_of-counts.result.row y) c.deref-then-slot-gt0-2.ensures.value
+    ∙ (ap (λ (ms : List ℕ). is_strong_by_firsts c.args.self.now.shape ms (numbers_of c.firsts_at-firsts.result) c.row_of-counts.result.row y) c.deref-then-slot-gt0-2.ensures.value
     ∙ (ap₂ (λ (f r : List ℕ). is_strong_by_firsts c.args.self.now.shape s.makers.items f r y) firsts row
     ∙ (ap₂ (λ (n : Stakes) (L : List Link). is_strong_by_firsts (shape_of n L) s.makers.items k.firsts (get_or s.counts.rows x []) y) n_is L_is
     ∙ (ap (λ w. is_supermajority (total s.stakes) (stake_where s.stakes (own_sees k.firsts (get_or s.counts.rows x [])) + w)) beside ∙ told)))))

@@ -13,8 +13,11 @@ use Rattle.hg_branches.specs.Branches.{greatest_count}
 use Rattle.hg_branches.specs.Columns.{HoldsBranches, room_of, next_branch, with_branch, put_at, count_in, forks_next}
 use Rattle.hg_branches.proofs.HeldLaws.{Serves, next_serves, in_reach, branches_hold, counts_hold, counts_last}
 use Rattle.hg_branches.specs.Rows.{RowView, known_place}
+use Rattle.hg_branches.specs.Firsts.{none_by}
 use Rattle.hg_branches.specs.Landmarks.{LandmarkView, landmark_at, noted, AreNotedOn, HoldsChains, HoldsNewest, HoldsTops, HoldsLandmarks}
-use Rattle.hg_branches.proofs.LandmarkLaws.{noted_on, landmarks_more, refilled, tops_noted}
+use Rattle.hg_branches.proofs.ChainLaws.{refilled}
+use Rattle.hg_branches.proofs.LandmarkLaws.{noted_on, landmarks_more, tops_noted}
+use Rattle.hg_branches.proofs.WidenLaws.{none_within}
 use Rattle.hg_branches.proofs.NumberLaws.{all_low}
 use Rattle.hg_branches.proofs.PutLaws.{opened_long}
 use Rattle.hg_branches.proofs.NextForkLaws.{forks_told}
@@ -112,8 +115,7 @@ note_all-requires-clause-newest c =
 
 pub note_all-requires-clause-tops : goal.note_all-requires-clause-tops
 note_all-requires-clause-tops c =
-    subst (λ (landmarks : List LandmarkView). HoldsTops landmarks c.deref-4.result.now) (sym c.deref_mut.ensures.value)
-    (subst (HoldsTops c.self.inside.landmarks.items) (sym c.deref-4.ensures.value) c.self.invariant.tops)
+    subst (λ (landmarks : List LandmarkView). HoldsTops landmarks c.self.inside.tops.ends) (sym c.deref_mut.ensures.value) c.self.invariant.tops
 
 pub note_all-requires-clause-noted : goal.note_all-requires-clause-noted
 note_all-requires-clause-noted c = λ i.
@@ -165,8 +167,8 @@ open_branch-requires-clause-there c =
     let all = c.self.invariant.landmarks.newest_all in
     omega arith
 
-pub open_branch-requires-2-clause-there : goal.open_branch-requires-2-clause-there
-open_branch-requires-2-clause-there c =
+pub open-requires-clause-there : goal.open-requires-clause-there
+open-requires-clause-there c =
     let s = c.self.inside in
     let held = c.self.invariant.branches in
     let fits = subst (λ (g : ShapeWithRoom). FitsLink g.shape.members g.shape.links (link_of c.args.creator c.args.parents.now)) (sym c.self.view_is) c.requires.fits in
@@ -196,7 +198,10 @@ invariant_of-self c =
     let on = c.args.parents.now in
     let fits = subst (λ (g : ShapeWithRoom). FitsLink g.shape.members g.shape.links link) (sym c.self.view_is) c.requires.fits in
     let ready : 1 ≤ room_of s.ready = subst (λ (g : ShapeWithRoom). 1 ≤ g.room) (sym c.self.view_is) c.requires.room in
-    let short : length L + 1 < 65535 = (let rows_room = held.rows_room in omega arith) in
+    let rows_room = held.rows_room in
+    let none_wide = none_within s.wide in
+    let short : length L + 1 < 4294967295 = omega arith in
+    let short_of : (i : ℕ) → i < length s.landmarks.items → length L + 1 < (landmark_at s.landmarks.items i).none = λ i h. (let high = held.widths i h in omega arith) in
     let b = c.branch_for-branch.result in
     let b_is = branch_is s.branches.items s.ends.items by c.args.parents.now c.deref.result.now b c.branch_for-branch.ensures c.deref.ensures.value in
     let serves : Serves L s.branches.items s.makers.items link b = subst (λ k. Serves L s.branches.items s.makers.items link k) (sym b_is)
@@ -247,14 +252,19 @@ invariant_of-self c =
       landmarks = rw (c.push-2.ensures, c.push-3.ensures, makers_are, c.of.ensures, c.open_branch.ensures, c.push_reserved.ensures.items)
           (subst (λ (landmarks : List LandmarkView). HoldsLandmarks s.stakes (L ++ link ∷ []) (s.branches.items ++ b ∷ []) (with_branch s.makers.items b by) landmarks (with_branch s.newest.items b 0) (s.numbers.items ++ 0 ∷ []))
           (sym (refilled s.landmarks.len c.note_all.new.landmarks s.landmarks.items (omega (arith, landmarks_long))))
-          (landmarks_more s.stakes L s.branches.items s.makers.items s.ends.items held.branches low link fits b serves row counted short s.landmarks.items c.note_all.new.landmarks s.newest.items s.numbers.items held.landmarks landmarks_long each));
-      tops = rw c.open_branch-2.ensures
-          (subst (λ (landmarks : List LandmarkView). HoldsTops landmarks (with_branch s.tops.items b 0)) (sym (refilled s.landmarks.len c.note_all.new.landmarks s.landmarks.items (omega (arith, landmarks_long))))
-          (tops_noted s.landmarks.items c.note_all.new.landmarks (λ i h. (ap (λ (k : LandmarkView). k.end) (each i h), ap (λ (k : LandmarkView). k.branch) (each i h), ap (λ (k : LandmarkView). k.before) (each i h))) landmarks_long s.tops.items b held.tops));
-      tops_all = rw (c.open_branch-2.ensures, makers_are)
-          (opened_long s.makers.items s.tops.items b by (reach s.stakes L s.branches.items s.makers.items s.ends.items held.branches c.args.parents.now by fits b b_is) held.tops_all);
+          (landmarks_more s.stakes L s.branches.items s.makers.items s.ends.items held.branches low link fits b serves row counted short s.landmarks.items c.note_all.new.landmarks s.newest.items s.numbers.items short_of held.landmarks landmarks_long each));
+      tops = rw c.open.ensures
+          (subst (λ (landmarks : List LandmarkView). HoldsTops landmarks (with_branch s.tops.ends b 0)) (sym (refilled s.landmarks.len c.note_all.new.landmarks s.landmarks.items (omega (arith, landmarks_long))))
+          (tops_noted s.landmarks.items c.note_all.new.landmarks (λ i h. (ap (λ (k : LandmarkView). k.end) (each i h), ap (λ (k : LandmarkView). k.branch) (each i h), ap (λ (k : LandmarkView). k.before) (each i h))) landmarks_long s.tops.ends b held.tops));
+      widths = λ i h. (let low : i < length s.landmarks.items = omega (arith, landmarks_long, ap length (refilled s.landmarks.len c.note_all.new.landmarks s.landmarks.items (omega (arith, landmarks_long)))) in
+          let was = held.widths i low in
+          let is : (landmark_at c.note_all.new.landmarks i).none ≡ (landmark_at s.landmarks.items i).none = ap (λ (k : LandmarkView). k.none) (each i low) in
+          subst (λ (landmarks : List LandmarkView). none_by s.wide ≤ (landmark_at landmarks i).none)
+          (sym (refilled s.landmarks.len c.note_all.new.landmarks s.landmarks.items (omega (arith, landmarks_long)))) (omega arith));
+      tops_all = rw (c.open.ensures, makers_are)
+          (opened_long s.makers.items s.tops.ends b by (reach s.stakes L s.branches.items s.makers.items s.ends.items held.branches c.args.parents.now by fits b b_is) held.tops_all);
       spare = held.spare;
-      rows_room = rw c.push-2.ensures (omega (arith, short, length_push L c.of.result));
+      rows_room = rw c.push-2.ensures (omega (arith, rows_room, length_push L c.of.result));
       links_room = omega arith;
       branches_room = omega arith;
       makers_room = omega arith;

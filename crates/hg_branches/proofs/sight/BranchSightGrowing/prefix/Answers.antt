@@ -32,14 +32,15 @@ invariant_of-result c =
       branches = rw (c.in_ok-copy.ensures, c.in_ok-cloned_prefix.ensures.items, c.in_ok-prefix.ensures.items, makers) (branches_take s.stakes s.links.items s.branches.items s.makers.items s.ends.items held.branches len many le is_many c.in_ok-ends_within.field-0.items ends_len end);
       counts = rw (c.in_ok-copy.ensures, c.in_ok-cloned_prefix.ensures.items, c.in_ok-prefix.ensures.items, makers, c.in_ok-prefix-2.ensures.rows) (counts_take s.stakes s.links.items s.branches.items s.makers.items s.ends.items held.branches len many le is_many s.counts.rows held.counts);
       forks = rw (c.in_ok-cloned_prefix.ensures.items, c.in_ok-prefix-3.ensures.items) (forks_take s.stakes s.links.items s.branches.items s.makers.items s.ends.items held.branches len many le is_many s.forked.items held.forks);
-      landmarks = rw (c.in_ok-copy.ensures, c.in_ok-cloned_prefix.ensures.items, c.in_ok-prefix.ensures.items, makers, c.new.ensures.items, c.new-2.ensures.items)
+      landmarks = rw (c.in_ok-copy.ensures, c.in_ok-cloned_prefix.ensures.items, c.in_ok-prefix.ensures.items, makers, c.new.ensures.items, c.new-3.ensures.items)
           (landmarks_none s.stakes (take len s.links.items) (take len s.branches.items) (take many s.makers.items) c.in_ok-zeros.field-0.items
           (c.in_ok-zeros.ensures ∙ ap (λ k. replicate k 0) (sym (length-take-le many s.makers.items (omega arith)))));
       tops = rw c.new.ensures.items (λ i h. absurd (omega arith));
-      tops_all = ap length c.in_ok-zeros-2.ensures ∙ (length-replicate many 0 ∙ sym (ap length makers ∙ length-take-le many s.makers.items (omega arith)));
+      tops_all = ap length c.in_ok-new.ensures ∙ (length-replicate many 0 ∙ sym (ap length makers ∙ length-take-le many s.makers.items (omega arith)));
       counts_members = c.in_ok-prefix-2.ensures.members ∙ (held.counts_members ∙ ap member_count (sym c.in_ok-copy.ensures));
+      widths = λ i h. (let none = ap length c.new.ensures.items in absurd (omega arith));
       spare = tt;
-      rows_room = rw c.in_ok-cloned_prefix.ensures.items (let short = held.branches.short in omega (arith, length-take-le len s.links.items le));
+      rows_room = rw c.in_ok-cloned_prefix.ensures.items (let room = held.rows_room in omega (arith, length-take-le len s.links.items le));
       links_room = omega arith;
       branches_room = omega arith;
       makers_room = omega arith;

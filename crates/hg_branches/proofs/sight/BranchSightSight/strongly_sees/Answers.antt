@@ -6,7 +6,7 @@ use Rattle.hg_model.specs.Links.{creator}
 use Rattle.hg_model.specs.Seeing.{strongly_sees}
 use Rattle.hg_model.specs.Shape.{ShapeWithRoom}
 use Rattle.hg_branches.specs.declared.sight.BranchSight.TheInside.{Inside}
-use Rattle.hg_branches.specs.Landmarks.{LandmarkView, landmark_at, no_first, HoldsFirsts, IsNeverStrong, IsWeighed}
+use Rattle.hg_branches.specs.Landmarks.{LandmarkView, landmark_at, HoldsFirsts, IsNeverStrong, IsWeighed}
 use Rattle.hg_branches.specs.Lines.{is_strong_by_own}
 use Rattle.hg_branches.specs.Sight.{HoldsBranchSight}
 use Rattle.hg_branches.proofs.LandmarkLaws.{strong_alone}
@@ -66,12 +66,13 @@ returns-then-is_young c =
     let number = c.count_at-number.ensures ∙ ap (λ (ns : List ℕ). slice_index ns y) c.deref.ensures.value in
     let mark_is : c.landmark_of-landmark.result.now ≡ mark s y =
     c.landmark_of-landmark.ensures ∙ ap₂ (λ (landmarks : List LandmarkView) (j : ℕ). landmark_at landmarks (j - 1)) c.deref-then-is_own.ensures.value number in
-    let low : (b : ℕ) → b < member_count s.stakes → slice_index (row_at s x) b < no_first = λ b member.
+    let low : (b : ℕ) → b < member_count s.stakes → slice_index (row_at s x) b < (mark s y).none = λ b member.
     let small : slice_index (row_at s x) b ≤ length s.links.items =
     count_small s.stakes s.links.items s.branches.items s.makers.items s.ends.items held.branches s.counts.rows held.counts x b left in
-    let short = held.branches.short in
+    let holds = has_firsts s held y (let some = c.if-number-gt0.true in omega arith) in
+    let short = holds.short in
     omega arith in
-    let never : IsNeverStrong s.stakes (mark s y).firsts = subst (λ (k : LandmarkView). IsNeverStrong s.stakes k.firsts) mark_is (c.is_young.ensures.never c.if-is_young.true) in
+    let never : IsNeverStrong s.stakes (mark s y) = subst (IsNeverStrong s.stakes) mark_is (c.is_young.ensures.never c.if-is_young.true) in
     subst (λ (g : ShapeWithRoom). false ≡ strongly_sees g.shape.members g.shape.links x y) c.self.view_is
     (sym (never (row_at s x) low) ∙ told s held x y left (let some = c.if-number-gt0.true in omega arith) alone)
 

@@ -1,7 +1,6 @@
-use Rattle.std.proofs.Common.{◌≡◌, ◌<◌, ◌∙◌, ◌+◌, ◌++◌, ◌∷◌, [], ℕ, List, length, slice_index, slice_set, sym, ap, subst, arith}
-use Rattle.std.proofs.lemmas.List.{length-set}
+use Rattle.std.proofs.Common.{◌≡◌, ◌<◌, ◌∙◌, ◌+◌, ◌++◌, ◌∷◌, [], ℕ, List, length, sym, ap, subst, arith}
 use Rattle.hg_graph.specs.declared.names.HashedRow.{HashedRow}
-use Rattle.hg_graph.specs.Names.{HashesWithRoom, HoldsIndex, bucket_of}
+use Rattle.hg_graph.specs.Names.{HashesWithRoom, Enters}
 use Rattle.hg_graph.proofs.HashedLaws.{index_pushed, written_all}
 use Rattle.hg_graph.proofs.names.NameIndex.push.Goals as goal
 
@@ -10,17 +9,16 @@ invariant_of-self c =
     let heads = c.self.inside.heads in
     let hashed = c.self.inside.hashed.items in
     let hash : ℕ = c.hash_of-hash.result in
-    let many : ℕ = length hashed in
+    let row : HashedRow = record { hash = hash; even = 0; odd = 0 } in
+    let new = c.enter.new in
+    let pushed = c.push_reserved.new.self in
     let room = ap (λ (s : HashesWithRoom). s.room) c.self.view_is in
     let one = c.requires in
     let free : length hashed < length heads.items = omega arith in
-    let pushed = index_pushed heads.items hashed hash free c.self.invariant in
-    let written : c.enter-before.new.heads ≡ slice_set heads.items (bucket_of (length heads.items) hash) (many + 1) =
-    subst (λ (hs : List ℕ). c.enter-before.new.heads ≡ slice_set hs (bucket_of (length hs) hash) (many + 1)) c.deref_mut.ensures.value
-    (subst (λ (n : ℕ). c.enter-before.new.heads ≡ slice_set c.deref_mut.result.now (bucket_of (length c.deref_mut.result.now) hash) n) (omega arith) c.enter-before.ensures.heads) in
-    let before : c.enter-before.result ≡ slice_index heads.items (bucket_of (length heads.items) hash) =
-    subst (λ (hs : List ℕ). c.enter-before.result ≡ slice_index hs (bucket_of (length hs) hash)) c.deref_mut.ensures.value c.enter-before.ensures.before in
-    let long : length c.enter-before.new.heads ≡ heads.len = ap length written ∙ (length-set heads.items (bucket_of (length heads.items) hash) (many + 1) ∙ sym heads.ok.0) in
-    subst (λ (hs : List ℕ). HoldsIndex hs c.push_reserved.new.self.items) (sym (written_all heads.len c.enter-before.new.heads heads.items long ∙ written))
-    (subst (λ (es : List HashedRow). HoldsIndex (slice_set heads.items (bucket_of (length heads.items) hash) (many + 1)) es) (sym c.push_reserved.ensures.items)
-    (subst (λ (b : ℕ). HoldsIndex (slice_set heads.items (bucket_of (length heads.items) hash) (many + 1)) (hashed ++ record { hash = hash; before = b } ∷ [])) (sym before) pushed))
+    let entered : Enters heads.items (hashed ++ row ∷ []) hash (length hashed + 1) new.heads new.hashed =
+    subst (λ (n : ℕ). Enters heads.items (hashed ++ row ∷ []) hash n new.heads new.hashed) (omega arith)
+    (rw (c.deref_mut.ensures.value, c.deref_mut-2.ensures.value, c.push_reserved.ensures.items) at c.enter.ensures.entered) in
+    let long : length new.heads ≡ length heads.items = c.enter.ensures.len ∙ ap (λ (hs : List ℕ). length hs) c.deref_mut.ensures.value in
+    let longer : length new.hashed ≡ pushed.len = entered.ways.long ∙ (ap (λ (es : List HashedRow). length es) (sym c.push_reserved.ensures.items) ∙ sym pushed.ok.0) in
+    rw (written_all heads.len new.heads heads.items (long ∙ sym heads.ok.0), written_all pushed.len new.hashed pushed.items longer)
+    (index_pushed heads.items hashed hash new.heads new.hashed free long c.self.invariant entered)

@@ -51,4 +51,5 @@ invariant_of-self-2 c =
           c.args.event.value c.args.entry c.add.new.self.published c.later_place-self-inside.result (vec_capacity c.push_reserved.new.self) graph marks keeps is memory,
       paid,
       carries_with_row c.self.inside.votes g c.args.event.value c.self.invariant.2,
+      c.self.invariant.3,
     )

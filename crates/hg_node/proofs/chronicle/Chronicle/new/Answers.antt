@@ -14,4 +14,5 @@ invariant_of-result c =
       record_none c.args.own n c.coin.result c.new-2.result.published (vec_capacity c.new-4.result) (c.new-2.ensures.keeps n c.coin.result some),
       rw c.new-2.ensures.none (book_none c.in_ok-new-2.field-0 _ c.in_ok-new-2.ensures.opening c.in_ok-new-2.ensures.book),
       carries_none n c.coin.result _ (c.empty.ensures n c.coin.result),
+      c.requires,
     )

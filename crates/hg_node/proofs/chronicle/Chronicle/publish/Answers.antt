@@ -39,6 +39,7 @@ invariant_of-self c =
       book_paid c.self.inside.graph.graph.rows c.self.inside.kept.published.order c.publish-count.new.self.published.order c.order.result.now c.self.inside.ledger c.pay.new.self
           c.self.invariant.1 c.publish-count.ensures.grows c.order.ensures c.pay.ensures,
       c.self.invariant.2,
+      c.self.invariant.3,
     )
 
 pub invariant_of-self-else-count-gt0 : goal.invariant_of-self-else-count-gt0
@@ -49,4 +50,5 @@ invariant_of-self-else-count-gt0 c =
       book_paid c.self.inside.graph.graph.rows c.self.inside.kept.published.order c.publish-count.new.self.published.order c.order.result.now c.self.inside.ledger c.pay.new.self
           c.self.invariant.1 c.publish-count.ensures.grows c.order.ensures c.pay.ensures,
       c.self.invariant.2,
+      c.self.invariant.3,
     )

@@ -24,7 +24,7 @@ pub add-requires-clause-graph : goal.add-requires-clause-graph
 add-requires-clause-graph g c =
     subst (λ (r : ChronicleView). IsGraph r.graph.members (r.graph.rows ++ c.in_ok-event.event.value ∷ [])) (sym c.deref_mut.ensures.value)
     (row_made g.V.Verifier.accepts c.self.inside.keys c.self.inside.chronicle.value c.args.others.now c.args.time c.args.payload.now c.self.invariant
-    c.in_ok-event.event.value.sig c.in_ok-event.ensures.sized c.in_ok-event.event.value (c.in-Ok.ensures.fault ∙ ap (λ (r : ChronicleView). draft_fault r c.args.others.now c.args.payload.now) c.deref.ensures) (signed_of_draft (g.V.Verifier.accepts c.self.inside.keys) c.self.inside.chronicle.value c.args.others.now c.args.time c.args.payload.now c.own-own.result (parents_on c.in-Ok.draft.last c.args.others.now) c.in_ok-event.event.value.sig (c.own-own.ensures ∙ ap (λ (r : ChronicleView). r.own) c.deref-2.ensures) (ap (λ (last : Option (List ℕ)). parents_on last c.args.others.now) (c.in-Ok.ensures.last ∙ ap (λ (r : ChronicleView). last_name r.own r.graph.rows) c.deref.ensures)) c.in_ok-event.ensures.signed) (row_of_draft c.self.inside.chronicle.value c.args.others.now c.args.time c.args.payload.now c.own-own.result (parents_on c.in-Ok.draft.last c.args.others.now) c.in_ok-event.event.value.sig c.in_ok-event.event.value (c.own-own.ensures ∙ ap (λ (r : ChronicleView). r.own) c.deref-2.ensures) (ap (λ (last : Option (List ℕ)). parents_on last c.args.others.now) (c.in-Ok.ensures.last ∙ ap (λ (r : ChronicleView). last_name r.own r.graph.rows) c.deref.ensures)) c.in_ok-event.ensures.row) c.requires (omega (arith, c.ranges.time.fits)) (c.in-Ok-row_rule.ensures ∙ ap (λ (h : Graph). row_fault h.rows c.in_ok-event.event.value) (c.graph.ensures ∙ ap (λ (r : ChronicleView). r.graph) c.deref-3.ensures))).graph
+    c.in_ok-event.event.value.sig c.in_ok-event.ensures.sized c.in_ok-event.event.value (c.in-Ok.ensures.fault ∙ ap (λ (r : ChronicleView). draft_fault r c.args.others.now c.args.payload.now) c.deref.ensures) (signed_of_draft (g.V.Verifier.accepts c.self.inside.keys) c.self.inside.chronicle.value c.args.others.now c.args.time c.args.payload.now c.own-own.result (parents_on c.in-Ok.draft.last c.args.others.now) c.in_ok-event.event.value.sig (c.own-own.ensures ∙ ap (λ (r : ChronicleView). r.own) c.deref-2.ensures) (ap (λ (last : Option (List ℕ)). parents_on last c.args.others.now) (c.in-Ok.ensures.last ∙ ap (λ (r : ChronicleView). last_name r.own r.graph.rows) c.deref.ensures)) c.in_ok-event.ensures.signed) (row_of_draft c.self.inside.chronicle.value c.args.others.now c.args.time c.args.payload.now c.own-own.result (parents_on c.in-Ok.draft.last c.args.others.now) c.in_ok-event.event.value.sig c.in_ok-event.event.value (c.own-own.ensures ∙ ap (λ (r : ChronicleView). r.own) c.deref-2.ensures) (ap (λ (last : Option (List ℕ)). parents_on last c.args.others.now) (c.in-Ok.ensures.last ∙ ap (λ (r : ChronicleView). last_name r.own r.graph.rows) c.deref.ensures)) c.in_ok-event.ensures.row) c.requires (omega (arith, c.ranges.time.fits)) (c.in-Ok-row_rule.ensures ∙ ap (λ (r : ChronicleView). row_fault r c.in_ok-event.event.value) c.deref-3.ensures)).graph
 
 pub returns-in_err-add-in-Ok-row_rule-clause-free : goal.returns-in_err-add-in-Ok-row_rule-clause-free
 returns-in_err-add-in-Ok-row_rule-clause-free g c =
@@ -36,7 +36,7 @@ pub returns-in-Err-row_rule-clause-ok : goal.returns-in-Err-row_rule-clause-ok
 returns-in-Err-row_rule-clause-ok g c =
     rw (← c.self.view_is)
     (row_refused g.V.Verifier.accepts c.self.inside.keys c.self.inside.chronicle.value c.args.others.now c.args.time c.args.payload.now c.self.invariant
-    c.in_ok-event.event.value.sig c.in_ok-event.ensures.sized c.in_ok-event.event.value (c.in-Ok.ensures.fault ∙ ap (λ (r : ChronicleView). draft_fault r c.args.others.now c.args.payload.now) c.deref.ensures) (signed_of_draft (g.V.Verifier.accepts c.self.inside.keys) c.self.inside.chronicle.value c.args.others.now c.args.time c.args.payload.now c.own-own.result (parents_on c.in-Ok.draft.last c.args.others.now) c.in_ok-event.event.value.sig (c.own-own.ensures ∙ ap (λ (r : ChronicleView). r.own) c.deref-2.ensures) (ap (λ (last : Option (List ℕ)). parents_on last c.args.others.now) (c.in-Ok.ensures.last ∙ ap (λ (r : ChronicleView). last_name r.own r.graph.rows) c.deref.ensures)) c.in_ok-event.ensures.signed) (row_of_draft c.self.inside.chronicle.value c.args.others.now c.args.time c.args.payload.now c.own-own.result (parents_on c.in-Ok.draft.last c.args.others.now) c.in_ok-event.event.value.sig c.in_ok-event.event.value (c.own-own.ensures ∙ ap (λ (r : ChronicleView). r.own) c.deref-2.ensures) (ap (λ (last : Option (List ℕ)). parents_on last c.args.others.now) (c.in-Ok.ensures.last ∙ ap (λ (r : ChronicleView). last_name r.own r.graph.rows) c.deref.ensures)) c.in_ok-event.ensures.row) c.in-Err-row_rule.fault (c.in-Err-row_rule.ensures ∙ ap (λ (h : Graph). row_fault h.rows c.in_ok-event.event.value) (c.graph.ensures ∙ ap (λ (r : ChronicleView). r.graph) c.deref-3.ensures)))
+    c.in_ok-event.event.value.sig c.in_ok-event.ensures.sized c.in_ok-event.event.value (c.in-Ok.ensures.fault ∙ ap (λ (r : ChronicleView). draft_fault r c.args.others.now c.args.payload.now) c.deref.ensures) (signed_of_draft (g.V.Verifier.accepts c.self.inside.keys) c.self.inside.chronicle.value c.args.others.now c.args.time c.args.payload.now c.own-own.result (parents_on c.in-Ok.draft.last c.args.others.now) c.in_ok-event.event.value.sig (c.own-own.ensures ∙ ap (λ (r : ChronicleView). r.own) c.deref-2.ensures) (ap (λ (last : Option (List ℕ)). parents_on last c.args.others.now) (c.in-Ok.ensures.last ∙ ap (λ (r : ChronicleView). last_name r.own r.graph.rows) c.deref.ensures)) c.in_ok-event.ensures.signed) (row_of_draft c.self.inside.chronicle.value c.args.others.now c.args.time c.args.payload.now c.own-own.result (parents_on c.in-Ok.draft.last c.args.others.now) c.in_ok-event.event.value.sig c.in_ok-event.event.value (c.own-own.ensures ∙ ap (λ (r : ChronicleView). r.own) c.deref-2.ensures) (ap (λ (last : Option (List ℕ)). parents_on last c.args.others.now) (c.in-Ok.ensures.last ∙ ap (λ (r : ChronicleView). last_name r.own r.graph.rows) c.deref.ensures)) c.in_ok-event.ensures.row) c.in-Err-row_rule.fault (c.in-Err-row_rule.ensures ∙ ap (λ (r : ChronicleView). row_fault r c.in_ok-event.event.value) c.deref-3.ensures))
 
 -- the row is made
 makes : (g : given.Over) (c : goal.In_ok-add-in-Ok-row_rule g) → MakesRow g.V.Verifier.accepts (node_view c.self.inside.keys c.self.inside.chronicle.value)
@@ -44,10 +44,10 @@ makes : (g : given.Over) (c : goal.In_ok-add-in-Ok-row_rule g) → MakesRow g.V.
     c.self.inside.chronicle.value c.in_ok-event.event.value c.args.others.now c.args.time c.args.payload.now
 makes g c =
     row_made g.V.Verifier.accepts c.self.inside.keys c.self.inside.chronicle.value c.args.others.now c.args.time c.args.payload.now c.self.invariant
-    c.in_ok-event.event.value.sig c.in_ok-event.ensures.sized c.in_ok-event.event.value (c.in-Ok.ensures.fault ∙ ap (λ (r : ChronicleView). draft_fault r c.args.others.now c.args.payload.now) c.deref.ensures) (signed_of_draft (g.V.Verifier.accepts c.self.inside.keys) c.self.inside.chronicle.value c.args.others.now c.args.time c.args.payload.now c.own-own.result (parents_on c.in-Ok.draft.last c.args.others.now) c.in_ok-event.event.value.sig (c.own-own.ensures ∙ ap (λ (r : ChronicleView). r.own) c.deref-2.ensures) (ap (λ (last : Option (List ℕ)). parents_on last c.args.others.now) (c.in-Ok.ensures.last ∙ ap (λ (r : ChronicleView). last_name r.own r.graph.rows) c.deref.ensures)) c.in_ok-event.ensures.signed) (row_of_draft c.self.inside.chronicle.value c.args.others.now c.args.time c.args.payload.now c.own-own.result (parents_on c.in-Ok.draft.last c.args.others.now) c.in_ok-event.event.value.sig c.in_ok-event.event.value (c.own-own.ensures ∙ ap (λ (r : ChronicleView). r.own) c.deref-2.ensures) (ap (λ (last : Option (List ℕ)). parents_on last c.args.others.now) (c.in-Ok.ensures.last ∙ ap (λ (r : ChronicleView). last_name r.own r.graph.rows) c.deref.ensures)) c.in_ok-event.ensures.row) c.requires (omega (arith, c.ranges.time.fits)) (c.in-Ok-row_rule.ensures ∙ ap (λ (h : Graph). row_fault h.rows c.in_ok-event.event.value) (c.graph.ensures ∙ ap (λ (r : ChronicleView). r.graph) c.deref-3.ensures))
+    c.in_ok-event.event.value.sig c.in_ok-event.ensures.sized c.in_ok-event.event.value (c.in-Ok.ensures.fault ∙ ap (λ (r : ChronicleView). draft_fault r c.args.others.now c.args.payload.now) c.deref.ensures) (signed_of_draft (g.V.Verifier.accepts c.self.inside.keys) c.self.inside.chronicle.value c.args.others.now c.args.time c.args.payload.now c.own-own.result (parents_on c.in-Ok.draft.last c.args.others.now) c.in_ok-event.event.value.sig (c.own-own.ensures ∙ ap (λ (r : ChronicleView). r.own) c.deref-2.ensures) (ap (λ (last : Option (List ℕ)). parents_on last c.args.others.now) (c.in-Ok.ensures.last ∙ ap (λ (r : ChronicleView). last_name r.own r.graph.rows) c.deref.ensures)) c.in_ok-event.ensures.signed) (row_of_draft c.self.inside.chronicle.value c.args.others.now c.args.time c.args.payload.now c.own-own.result (parents_on c.in-Ok.draft.last c.args.others.now) c.in_ok-event.event.value.sig c.in_ok-event.event.value (c.own-own.ensures ∙ ap (λ (r : ChronicleView). r.own) c.deref-2.ensures) (ap (λ (last : Option (List ℕ)). parents_on last c.args.others.now) (c.in-Ok.ensures.last ∙ ap (λ (r : ChronicleView). last_name r.own r.graph.rows) c.deref.ensures)) c.in_ok-event.ensures.row) c.requires (omega (arith, c.ranges.time.fits)) (c.in-Ok-row_rule.ensures ∙ ap (λ (r : ChronicleView). row_fault r c.in_ok-event.event.value) c.deref-3.ensures)
 
 place_is : (g : given.Over) (c : goal.In_ok-add-in-Ok-row_rule g) → c.len-place.result ≡ length c.self.inside.chronicle.value.graph.rows
-place_is g c = c.len-place.ensures.value ∙ ap (λ (h : Graph). length h.rows) (c.graph-in-Ok-row_rule.ensures ∙ ap (λ (r : ChronicleView). r.graph) c.deref-in-Ok-row_rule.ensures)
+place_is g c = c.len-place.ensures.value ∙ ap (λ (h : Graph). length h.rows) (c.graph.ensures ∙ ap (λ (r : ChronicleView). r.graph) c.deref-in-Ok-row_rule.ensures)
 
 recorded_is : (g : given.Over) (c : goal.In_ok-add-in-Ok-row_rule g) → c.add.new.self ≡ chronicle_with c.self.inside.chronicle.value c.in_ok-event.event.value (entry.Made (length c.self.inside.chronicle.value.graph.rows))
 recorded_is g c =

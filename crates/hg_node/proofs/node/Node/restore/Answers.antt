@@ -1,7 +1,6 @@
 use Rattle.std.proofs.Common.{◌<◌, [], ◌∷◌, ◌++◌, ◌∙◌, length, ap, subst, sym, arith}
 use Rattle.hg_event.specs.View.{row_of}
 use Rattle.hg_model.specs.Graph.{IsGraph}
-use Rattle.hg_life.specs.Verdict.{row_limit}
 use Rattle.hg_node.specs.ChronicleView.{ChronicleView, node_view}
 use Rattle.hg_node.specs.Puts.{back_rules}
 use Rattle.hg_node.proofs.BackLaws.{IsRestored, back_ends, back_refused, back_taken, restore_faulty}
@@ -16,7 +15,7 @@ returns-in-Err-clause-ok g c = (restore_faulty g.V.Verifier.accepts c.args.self.
 
 pub take_back-requires-clause-limit : goal.take_back-requires-clause-limit
 take_back-requires-clause-limit g c =
-    subst (λ (r : ChronicleView). length r.graph.rows < row_limit) (sym c.deref_mut.ensures.value)
+    subst (λ (r : ChronicleView). length r.graph.rows < r.limit) (sym c.deref_mut.ensures.value)
     (back_taken g.V.Verifier.accepts c.self.inside.keys c.self.inside.chronicle.value c.args.bytes.now c.self.invariant (row_of c.in-Ok.view) c.in-Ok.ensures.exact
     (λ i. omega (arith, c.type_inv.bytes i)) (c.in-Ok-parents_of_restore.ensures.answer ∙ ap (λ (r : ChronicleView). back_rules (g.V.Verifier.accepts c.self.inside.keys) r (row_of c.in-Ok.view)) c.deref.ensures)).limit
 
