@@ -1,5 +1,5 @@
 -- Rows that are asked from the last one on: what they weigh, and when it is settled
-use Rattle.std.proofs.Common.{◌≡◌, ◌∙◌, ◌+◌, ◌-◌, ◌*◌, ◌<◌, ◌≤◌, ℕ, Bool, true, false, cond, List, [], ◌∷◌, length, take, get_or, count_by, nat_le, ap, sym, subst, inl, inr, arith, Option, None, Some, IfSome}
+use Rattle.std.proofs.Common.{◌≡◌, ◌∙◌, refl, ◌+◌, ◌-◌, ◌*◌, ◌<◌, ◌≤◌, ℕ, Bool, true, false, cond, List, [], ◌∷◌, length, take, get_or, count_by, nat_le, ap, sym, subst, inl, inr, arith, Option, None, Some, IfSome}
 use Rattle.std.specs.Option.{unwrap_or}
 use Rattle.std.specs.List.{AllByRecursion}
 use Rattle.std.proofs.Math.Nat.{mul-add, mul-le-mul_left, add-zero}
@@ -8,13 +8,17 @@ use Rattle.std.proofs.lemmas.List.{take_more}
 use Rattle.std.proofs.lemmas.List.Sums.{sum_by-append, sum_by-cons}
 use Rattle.hg_model.specs.Stakes.{Stakes, member_count, total, AllWeigh}
 use Rattle.hg_model.specs.Among.{weight_among}
-use Rattle.hg_model.specs.Links.{creator}
+use Rattle.hg_model.specs.Places.{has_place, IsEarlier}
+use Rattle.hg_model.specs.Links.{Link, creator, parents}
 use Rattle.hg_model.specs.Shape.{Shape}
-use Rattle.hg_model.specs.Seeing.{is_supermajority}
+use Rattle.hg_model.specs.Ancestry.{is_ancestor}
+use Rattle.hg_model.specs.Seeing.{is_supermajority, strongly_sees}
 use Rattle.hg_model.specs.Rounds.{stake_at}
 use Rattle.hg_model.specs.GraphWords.{IsShapedIn}
 use Rattle.hg_model.proofs.StakeLaws.{total-even}
-use Rattle.hg_model.proofs.ReachLaws.{bool_iff}
+use Rattle.hg_model.proofs.ReachLaws.{bool_iff, none_there}
+use Rattle.hg_model.proofs.AncestryLaws.{is_ancestor_cases}
+use Rattle.hg_model.proofs.SightLaws.{strongly_sees-is_ancestor}
 
 -- one row more
 weight_more : (weight : ℕ → ℕ) (test : ℕ → Bool) (rows : List ℕ) (k : ℕ) → k < length rows →
@@ -108,3 +112,33 @@ stakes-even shape each (y ∷ rows) x shaped place even below =
 pub stake-even : (n : Stakes) (even : Option ℕ) (each : ℕ) → IfSome even (λ stake. AllWeigh n stake) → each ≡ unwrap_or even 0 → 0 < each → AllWeigh n each
 stake-even n None each all is some = absurd (omega (arith, is, some))
 stake-even n (Some stake) each all is some = subst (AllWeigh n) (sym is) all
+
+-- a row without parents strongly sees no earlier row
+
+pub no_places : (ps : List ℕ) → length ps ≡ 0 → ps ≡ []
+no_places [] none = refl
+no_places (p ∷ ps) some = absurd (omega (arith, some))
+
+module _ (n : Stakes) (L : List Link) (e : IsEarlier (parents L)) (x : ℕ) (none : parents L x ≡ []) where
+  not_ancestor : (y : ℕ) → y < x → is_ancestor L x y ≡ true → ⊥
+  not_ancestor y earlier up = elim (is_ancestor_cases L e x y up) [
+    | inl same ↦ omega (arith, earlier, same)
+    | inr by ↦ none_there by.0 (ap (λ ps. has_place ps by.0) (sym none) ∙ by.1)
+  ]
+
+  sees_no_earlier : (y : ℕ) → y < x → strongly_sees n L x y ≡ false
+  sees_no_earlier y earlier =
+      false_from_ne_true (strongly_sees n L x y) (λ h. absurd (not_ancestor y earlier (strongly_sees-is_ancestor L e n x y h)))
+
+  sees_none : (rows : List ℕ) → AllByRecursion (λ y. y < x) rows → weight_among (stake_at n L) (strongly_sees n L x) rows ≡ 0
+  sees_none [] below = refl
+  sees_none (y ∷ rows) below =
+      sum_by-cons (λ k. cond (strongly_sees n L x k) (stake_at n L k) 0) y rows
+      ∙ omega (arith, ap (λ b. cond b (stake_at n L y) 0) (sees_no_earlier y below.0), sees_none rows below.1)
+
+  pub rises_not : (rows : List ℕ) → AllByRecursion (λ y. y < x) rows →
+      is_supermajority (total n) (weight_among (stake_at n L) (strongly_sees n L x) rows) ≡ false
+  rises_not rows below =
+      false_from_ne_true (is_supermajority (total n) (weight_among (stake_at n L) (strongly_sees n L x) rows))
+      (λ h. (let more = ltb-true (2 * total n) (3 * weight_among (stake_at n L) (strongly_sees n L x) rows) h in
+      absurd (omega (arith, sees_none rows below, more))))

@@ -1,5 +1,5 @@
 ghost use Rattle.std.specs.Prelude.{◌≡◌, ℕ, ◌<◌, ◌≤◌, ◌+◌, ◌-◌, ◌^◌, [], ◌∷◌, ◌++◌, cond, length, nat_le, nat_lt};
-ghost use Rattle.hg_model.specs.Links.{first_place};
+ghost use Rattle.hg_model.specs.Links.{first_place, parents};
 ghost use Rattle.hg_model.specs.Stakes.{total};
 ghost use Rattle.hg_model.specs.Rounds.{parent_round};
 ghost use Rattle.hg_model.specs.Seeing.{is_supermajority};
@@ -27,8 +27,9 @@ pub fn place_round<S: Sight>(sight: &S, table: &RoundTable, parents: &[usize]) -
 {
     let last = sight.rows() - 1;
     let greatest = parent_round(table, parents);
-    let many = sees_many(
+    let many = rises(
         sight,
+        parents,
         table.witnesses(greatest),
         last,
         table.weight(greatest),
@@ -57,6 +58,19 @@ fn least_supermajority(total: u64) -> u64
     ensures { (stake : ℕ) → is_supermajority total stake ≡ nat_le result stake }
 {
     2 * total / 3 + 1
+}
+
+/// Whether row `x`, on parents at these places, strongly sees many of these rows, as `sees_many` tells. Without parents it sees no
+/// earlier row, and none is asked.
+fn rises<S: Sight>(sight: &S, on: &[usize], rows: &[usize], x: usize, weight: u64) -> bool
+    requires place { x < length (S.shape sight.now).links }
+    requires on { on.now ≡ parents (S.shape sight.now).links x }
+    requires places { AllByRecursion (λ y. y < x) rows.now }
+    requires weight { weight ≡ rows_weight (S.shape sight.now) rows.now }
+    ensures { result ≡ is_supermajority (total (S.shape sight.now).members) (seen_weight (S.shape sight.now) x rows.now) }
+{
+    is_shaped(sight);
+    !on.is_empty() && sees_many(sight, rows, x, weight)
 }
 
 /// Whether those of these rows that row `x` strongly sees weigh more than two thirds of the total. `weight` is what all of

@@ -15,8 +15,8 @@ pub is_first-requires : goal.is_first-requires
 is_first-requires g c =
     rw c.requires.parents (parents_known _ _ c.rows-last.ensures.shaped c.requires.some _ c.requires.before)
 
-pub sees_many-many-requires-clause-places : goal.sees_many-many-requires-clause-places
-sees_many-many-requires-clause-places g c =
+pub rises-many-requires-clause-places : goal.rises-many-requires-clause-places
+rises-many-requires-clause-places g c =
     rw (c.rows-last.ensures.value, c.witnesses.ensures) (witnesses_below _ _ c.rows-last.ensures.shaped c.requires.some _ c.requires.before _)
 
 pub next_round-round-requires : goal.next_round-round-requires
@@ -34,7 +34,7 @@ returns-clause-round g c =
     let shape = g.S.Sight.shape c.args.sight.now in
     let r_is = c.parent_round-greatest.ensures ∙ ap (parent_round (round_at c.args.table.now.standings)) c.requires.parents in
     let seen_is = ap₂ (seen_weight shape) (ap (λ k. k - 1) c.rows-last.ensures.value) c.witnesses.ensures in
-    let many_is = c.sees_many-many.ensures in
+    let many_is = c.rises-many.ensures in
     c.next_round-round.ensures ∙ last_round_known _ _ c.rows-last.ensures.shaped c.requires.some _ c.requires.before _ _ _ r_is seen_is many_is
 
 pub returns-clause-witness : goal.returns-clause-witness
