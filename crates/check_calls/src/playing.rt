@@ -7,7 +7,7 @@ ghost use Rattle.hg_life.specs.NodeView.{start_of};
 use crate::members::two_members;
 use hg_life::{MakeAnswer, Members, PutAnswer};
 use hg_model::{Memory, Name, Placed};
-use hg_node::Node;
+use hg_node::{Node, ROW_LIMIT};
 use hg_sign::MacTable;
 use std::alloc::Global;
 use std::fmt::Debug;
@@ -63,6 +63,34 @@ pub(crate) fn player_of(
     Ok(Player {
         node: Node::new(alloc, members, own, keys)?,
     })
+}
+
+/// The player of a member, whose node holds at most so many rows.
+fn limited_player_of(
+    rt: &impl Abort,
+    alloc: Global,
+    members: &Members,
+    own: u16,
+    limit: usize,
+) -> Result<Player, Memory> {
+    assert!(rt; u32::from(own) < members.count());
+    assert!(rt; limit <= ROW_LIMIT);
+    let keys = MacTable::new(alloc, members)?;
+    Ok(Player {
+        node: Node::with_limit(alloc, members, own, keys, limit)?,
+    })
+}
+
+/// A and B, whose nodes hold at most so many rows.
+pub(crate) fn two_limited(
+    rt: &impl Abort,
+    alloc: Global,
+    limit: usize,
+) -> Result<(Player, Player), Memory> {
+    let members = two_members(rt, alloc)?;
+    let a = limited_player_of(rt, alloc, &members, 0, limit)?;
+    let b = limited_player_of(rt, alloc, &members, 1, limit)?;
+    Ok((a, b))
 }
 
 /// A and B.

@@ -6,7 +6,7 @@
 //!
 //! ```text
 //! let parents = parents_of_arrival(keys, graph, Some(chronicle.own()), view, name, bytes)?;
-//! full_rule(graph)?;
+//! full_rule(chronicle)?;
 //! Ok(parents)
 //! ```
 #![tactic(auto)]

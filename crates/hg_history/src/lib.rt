@@ -7,10 +7,10 @@
 //! ```text
 //! use Rattle.hg_history.proofs.KeptLaws.{order_grows}
 //!
-//! events_grow accepts n c own a b three is =
+//! events_grow terms n c own a b three is =
 //!     let s = replay n c a in
 //!     let t = replay n c (a ++ b) in
-//!     let order = order_grows accepts n c own a b three is in
+//!     let order = order_grows terms n c own a b three is in
 //! ```
 #![tactic(auto)]
 

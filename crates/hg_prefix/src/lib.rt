@@ -9,9 +9,9 @@
 //!
 //! let orders = chain_orders n c 48 (rows_after n c a) (rows_after n c b)
 //!     (replay n c a).marks (replay n c b).marks faulty is.coin first.graph second.graph
-//!     (moment_fame accepts n c run is j a at_a) (moment_fame accepts n c run is k b at_b)
+//!     (moment_fame terms n c run is j a at_a) (moment_fame terms n c run is k b at_b)
 //!     (equal_rows n c run j k a b apart at_a at_b) first.sizes second.sizes few ... in
-//! rw (order_is accepts n c run is j a at_a, order_is accepts n c run is k b at_b) orders
+//! rw (order_is terms n c run is j a at_a, order_is terms n c run is k b at_b) orders
 //! ```
 #![tactic(auto)]
 
