@@ -48,4 +48,4 @@ def options(text):
 
 def other_outcome(program, folder):
     """What another program comes to; one that takes more events by itself is told the limit."""
-    return play(program, folder, environment=dict(os.environ, HG_LIMIT="16384"))
+    return play(program, folder, environment=dict(os.environ, HG_LIMIT="1048576"))

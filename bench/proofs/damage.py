@@ -98,5 +98,5 @@ class Damages:
 
     def do_count(self):
         at = 4 if self.draw.random() < 0.5 else len(self.data) - 16 * len(self.order) - 4
-        count = self.draw.choice((0, 1, 16_384, 16_385, 2**32 - 1))
+        count = self.draw.choice((0, 1, 1_048_576, 1_048_577, 2**32 - 1))
         return self.data[:at] + struct.pack(">I", count) + self.data[at + 4:]

@@ -11,7 +11,7 @@ import struct
 import sys
 import tomllib
 
-MOST_ROWS, MOST_PAYLOAD = 16_384, 1_024
+MOST_ROWS, MOST_PAYLOAD = 1_048_576, 1_024
 
 
 class No(Exception):

@@ -6,7 +6,7 @@ import sys
 from .consensus import Ledger, Web
 from .events import PAYLOAD_MOST, Fields, Refused, name_of, sign, spell, spell_transfers
 
-EVENTS_MOST = 16384
+EVENTS_MOST = 1048576
 
 
 class Mark:
