@@ -1,6 +1,6 @@
 -- What stops leave through one piece of work after another.
-use Rattle.std.proofs.Common.{◌≡◌, inl, inr, ℕ, List, Option, Some, None, is_some, option_map, refl, ◌∙◌, subst}
-use Rattle.std.specs.Prelude.{Result, Ok, Err, IsErrOf, IsSome}
+use Rattle.std.proofs.Common.{◌≡◌, inl, inr, ℕ, List, Option, Some, None, is_some, option_map, refl, sym, ◌∙◌, ap, subst}
+use Rattle.std.specs.Prelude.{Result, Ok, Err, IfErr, IsErrAnd, IsErrOf, IsSome}
 use Rattle.hg_io.specs.FileView.{FileView}
 use Rattle.hg_io.proofs.Going.{goes_on, weaker}
 use Rattle.hg_life.specs.NodeView.{NodeView, Start}
@@ -23,6 +23,15 @@ no_error x e is = absurd cc
 
 pub error_is : {T E : Type 0} (d e : E) → IsErrOf (let r : Result T E = Err d in r) e → d ≡ e
 error_is d e is = cc
+
+-- what a `?` hands on
+pub errs : {T E : Type 0} (r : Result T E) (e : E) (P : E → Type 0) → IsErrAnd r (λ x. x ≡ e) → P e → IfErr r P
+errs (Ok x) e P is p = absurd is
+errs (Err x) e P is p = subst P (sym is) p
+
+pub err_of : {T U E : Type 0} (r : Result T E) (e d : E) → IsErrAnd r (λ x. x ≡ e) → IsErrOf (let q : Result U E = Err e in q) d → IsErrOf r d
+err_of (Ok x) e d is of = absurd is
+err_of {T} {U} {E} (Err x) e d is of = ap (λ (y : E). (let q : Result T E = Err y in q)) (is ∙ error_is {T = U} e d of)
 
 -- what is there was there before it was mapped
 pub some_mapped : {A B : Type 0} (f : A → B) (o : Option A) (p : Option B) → option_map f o ≡ p → IsSome p → IsSome o

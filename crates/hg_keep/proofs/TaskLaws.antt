@@ -9,18 +9,16 @@ use Rattle.hg_life.specs.NodeView.{NodeView, Start, start_of}
 use Rattle.hg_life.specs.Signing.{Accepts}
 use Rattle.hg_journal.proofs.OpenLaws.{anew_is}
 use Rattle.hg_journal.specs.Journal.{head_of, journal}
-use Rattle.hg_journal.specs.Opening.{IsWrong, SyncsFirst, SyncsOrFails, WritesOnlyAnew}
+use Rattle.hg_journal.specs.Opening.{IsWrong, StaysUnlessDisk, SyncsFirst, SyncsOrFails, WritesOnlyAnew}
 use Rattle.hg_journal.specs.Stored.{StoredView, StoresNode}
 use Rattle.hg_journal.specs.declared.errors.OpenError.{OpenError}
 use Rattle.hg_journal.specs.declared.errors.OpenError.TheVariants as open_error
 use Rattle.hg_journal.specs.declared.errors.StoreError.{StoreError}
 use Rattle.hg_journal.specs.declared.errors.StoreError.TheVariants as store_error
 use Rattle.hg_keep.specs.declared.kept.Kept.{Kept}
-use Rattle.hg_keep.specs.declared.stop.Stop.{Stop}
-use Rattle.hg_keep.specs.declared.stop.Stop.TheVariants as stop
 use Rattle.hg_keep.specs.Keeping.{IsKept, IsMadeWithOf, IsOnTheWay, KeptOf}
-use Rattle.hg_keep.specs.Stops.{IsRefused, KeepsSome, KeepsTask, SparesOthers, StaysIfRefused, StopsLeaveOf, SyncsOnTheWay, SyncsOrStops}
-use Rattle.hg_keep.specs.Stores.{open_stop, store_stop}
+use Rattle.hg_keep.specs.Stops.{KeepsSome, KeepsTask, SparesOthers, StaysIfRefused, StopsLeaveOf, SyncsOnTheWay, SyncsWayOrFails}
+use Rattle.hg_keep.specs.Stores.{open_error_of}
 use Rattle.hg_keep.proofs.StopLaws.{some_value, told_still}
 use Rattle.hg_keep.proofs.WayLaws.{makes_start, puts_start}
 
@@ -43,13 +41,7 @@ syncs_on first leaves = record {
 }
 
 module _ {K : Type 0} (accepts : K → Accepts) (start : Start K) where
-  pub wrong_open : (e : OpenError) (file : List ℕ) → IsWrong accepts start file e → IsRefused accepts start (open_stop e) file
-  wrong_open open_error.Disk file is = tt
-  wrong_open open_error.Memory file is = tt
-  wrong_open open_error.Foreign file is = is
-  wrong_open (open_error.Broken at) file is = is
-
-  pub wrong_store : (e : StoreError) (file : List ℕ) → IsRefused accepts start (store_stop e) file
+  pub wrong_store : (e : StoreError) (file : List ℕ) → IsWrong accepts start file (open_error_of e)
   wrong_store store_error.Disk file = tt
   wrong_store store_error.Closed file = tt
   wrong_store store_error.Memory file = tt
@@ -59,8 +51,8 @@ module _ {K : Type 0} (accepts : K → Accepts) (start : Start K) where
     begun v left keeps = (v, own v, keeps)
 
     -- where the journal was not opened
-    pub syncs_open : {T U : Type 0} (old new : FileView) (r : Result T OpenError) (s : Result U Stop) → (IsErrOf r open_error.Disk → IsErrOf s stop.Disk) → SyncsOrFails accepts start old new r
-        → SyncsOrStops accepts start comes old new s
+    pub syncs_open : {T U : Type 0} (old new : FileView) (r : Result T OpenError) (s : Result U OpenError) → (IsErrOf r open_error.Disk → IsErrOf s open_error.Disk) → SyncsOrFails accepts start old new r
+        → SyncsWayOrFails accepts start comes old new s
     syncs_open old new r s same (inl syncs) = inl (λ bytes told v is. syncs_wider (syncs bytes told v is) (begun v))
     syncs_open old new r s same (inr fails) = inr (same fails.0, fails.1)
 
@@ -74,9 +66,9 @@ module _ {K : Type 0} (accepts : K → Accepts) (start : Start K) where
         syncs_on (syncs_wider (syncs bytes told v is) (begun v)) later
 
     -- where it was, and the work went on
-    pub syncs_work : {T U : Type 0} (old mid new : FileView) (r : Result T OpenError) (node : Option (NodeView K)) (s : Result U Stop) → (IsErrOf r open_error.Disk → ⊥) → SyncsOrFails accepts start old mid r
+    pub syncs_work : {T U : Type 0} (old mid new : FileView) (r : Result T OpenError) (node : Option (NodeView K)) (s : Result U OpenError) → (IsErrOf r open_error.Disk → ⊥) → SyncsOrFails accepts start old mid r
         → is_some mid.reads ≡ is_some old.reads → ForSome old.reads (λ bytes. journal accepts start bytes ≡ node) → ForSome node (λ v. v.start ≡ start) → StopsLeaveOf accepts comes node mid new
-        → SyncsOrStops accepts start comes old new s
+        → SyncsWayOrFails accepts start comes old new s
     syncs_work old mid new r node s opened syncs shown opens begins leaves = inl (syncs_for old mid new r node opened syncs shown opens begins leaves)
 
   -- what is no journal, or a broken one, is not to be made anew, and is not opened
@@ -110,7 +102,13 @@ module _ {K : Type 0} (accepts : K → Accepts) (start : Start K) where
         record { synced = stored.synced; keeps = λ bytes told. subst (λ (b : Start K). journal accepts b bytes ≡ Some w) same (stored.keeps bytes told) },
       )
 
-pub refused_store : (e : StoreError) (old new : FileView) → StaysIfRefused (store_stop e) old new
+pub refused_open : (e : OpenError) (old new : FileView) → StaysUnlessDisk e old new → StaysIfRefused e old new
+refused_open open_error.Disk old new stays = tt
+refused_open open_error.Memory old new stays = tt
+refused_open open_error.Foreign old new stays = stays
+refused_open (open_error.Broken at) old new stays = stays
+
+pub refused_store : (e : StoreError) (old new : FileView) → StaysIfRefused (open_error_of e) old new
 refused_store store_error.Disk old new = tt
 refused_store store_error.Closed old new = tt
 refused_store store_error.Memory old new = tt
@@ -120,14 +118,8 @@ made_with members own keys node begins v there =
     let e = begins v there in
     e ∙ ap (λ (s : Start _). start_of members s.own s.keys) (sym e)
 
--- a stop of the disk tells of one
-pub open_disk : (e : OpenError) → open_stop e ≡ stop.Disk → e ≡ open_error.Disk
-open_disk open_error.Disk is = refl
-open_disk open_error.Memory is = absurd cc
-open_disk open_error.Foreign is = absurd cc
-open_disk (open_error.Broken at) is = absurd cc
-
-pub store_disk : (e : StoreError) → (e ≡ store_error.Closed → ⊥) → store_stop e ≡ stop.Disk → e ≡ store_error.Disk
+-- what is told as a fault of the disk is one
+pub store_disk : (e : StoreError) → (e ≡ store_error.Closed → ⊥) → open_error_of e ≡ open_error.Disk → e ≡ store_error.Disk
 store_disk store_error.Disk never is = refl
 store_disk store_error.Closed never is = absurd (never refl)
 store_disk store_error.Memory never is = absurd cc

@@ -5,15 +5,13 @@ use Rattle.hg_io.specs.FileView.{FileView, IsSynced, Leaves, Stays}
 use Rattle.hg_life.specs.Members.{MemberList}
 use Rattle.hg_life.specs.NodeView.{NodeView, Start}
 use Rattle.hg_life.specs.Signing.{Accepts}
-use Rattle.hg_journal.specs.Faults.{IsFaultCounted}
-use Rattle.hg_journal.specs.Journal.{journal, reading_of}
+use Rattle.hg_journal.specs.Journal.{journal}
 use Rattle.hg_journal.specs.Opening.{SyncsFirst}
-use Rattle.hg_journal.specs.Reading as R
 use Rattle.hg_journal.specs.Writing.{LeavesOnly}
+use Rattle.hg_journal.specs.declared.errors.OpenError.{OpenError}
+use Rattle.hg_journal.specs.declared.errors.OpenError.TheVariants.{Disk, Memory, Foreign, Broken}
 use Rattle.hg_keep.specs.Keeping.{IsKept}
 use Rattle.hg_keep.specs.declared.kept.Kept.{Kept}
-use Rattle.hg_keep.specs.declared.stop.Stop.{Stop}
-use Rattle.hg_keep.specs.declared.stop.Stop.TheVariants.{Disk, Memory, Foreign, Broken}
 
 -- the journal of a node of which this is so
 abbrev pub KeepsSome : {K : Type 0} → (K → Accepts) → Start K → (NodeView K → Type 0) → List ℕ → Type 0
@@ -27,10 +25,6 @@ pub record StopsLeave {K : Type 0} (accepts : K → Accepts) (start : Start K) (
 -- so it is of the node that was there, where the disk tells the file
 abbrev pub StopsLeaveOf : {K : Type 0} → (K → Accepts) → (NodeView K → NodeView K → Type 0) → Option (NodeView K) → FileView → FileView → Type 0
 StopsLeaveOf accepts comes node old new = ForSome node (λ v. IsSome old.reads → StopsLeave accepts v.start (comes v) old new)
-
--- where the disk stops the work, its count for this name rose
-abbrev pub IsFaultTold : {T : Type 0} → Result T Stop → (List ℕ → ℕ) → (List ℕ → ℕ) → List ℕ → Type 0
-IsFaultTold r before after name = IsFaultCounted r Disk before after name
 
 -- ---- from the opening on
 
@@ -50,18 +44,11 @@ SyncsOnTheWay {K} accepts start comes old new file =
     (v : NodeView K) → journal accepts start file ≡ Some v → SyncsFirst old new (KeepsSome accepts start (comes v))
 
 -- so it is of the file, where the disk tells it; or the disk failed before that, and nothing was written
-abbrev pub SyncsOrStops : {K T : Type 0} → (K → Accepts) → Start K → (NodeView K → NodeView K → Type 0) → FileView → FileView → Result T Stop → Type 0
-SyncsOrStops accepts start comes old new r = ForSome old.reads (SyncsOnTheWay accepts start comes old new) ⊎ (IsErrOf r Disk × Stays old new)
+abbrev pub SyncsWayOrFails : {K T : Type 0} → (K → Accepts) → Start K → (NodeView K → NodeView K → Type 0) → FileView → FileView → Result T OpenError → Type 0
+SyncsWayOrFails accepts start comes old new r = ForSome old.reads (SyncsOnTheWay accepts start comes old new) ⊎ (IsErrOf r Disk × Stays old new)
 
--- what a file is that is refused
-abbrev pub IsRefused : {K : Type 0} → (K → Accepts) → Start K → Stop → List ℕ → Type 0
-IsRefused accepts start Disk file = Unit {0}
-IsRefused accepts start Memory file = Unit {0}
-IsRefused accepts start Foreign file = reading_of accepts start file ≡ R.Foreign
-IsRefused accepts start (Broken at) file = reading_of accepts start file ≡ R.Broken at
-
--- it stays as it was
-abbrev pub StaysIfRefused : Stop → FileView → FileView → Type 0
+-- a file that is refused stays as it was
+abbrev pub StaysIfRefused : OpenError → FileView → FileView → Type 0
 StaysIfRefused Disk old new = Unit {0}
 StaysIfRefused Memory old new = Unit {0}
 StaysIfRefused Foreign old new = Stays old new

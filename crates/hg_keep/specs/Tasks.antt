@@ -5,11 +5,12 @@ use Rattle.hg_io.specs.FileView.{FileView}
 use Rattle.hg_life.specs.Members.{MemberList}
 use Rattle.hg_life.specs.NodeView.{NodeView, Start, start_of}
 use Rattle.hg_life.specs.Signing.{Accepts}
+use Rattle.hg_journal.specs.Opening.{IsWrong}
+use Rattle.hg_journal.specs.declared.errors.OpenError.{OpenError}
 use Rattle.hg_keep.specs.Keeping.{IsOnTheWay, KeptOf}
-use Rattle.hg_keep.specs.Stops.{IsRefused, KeepsTask, SyncsOrStops}
+use Rattle.hg_keep.specs.Stops.{KeepsTask, SyncsWayOrFails}
 use Rattle.hg_keep.specs.declared.keeping.Task.{Task}
 use Rattle.hg_keep.specs.declared.kept.Kept.{Kept}
-use Rattle.hg_keep.specs.declared.stop.Stop.{Stop}
 
 -- what the node begins with
 abbrev pub start_for : {K : Type 0} → MemberList → Task → K → Start K
@@ -29,9 +30,9 @@ DoesTask accepts members task keys old new kept =
     KeepsTask accepts members (start_for members task keys) task.events.now task.time old new kept
 
 -- the file is refused so, where the disk tells it
-abbrev pub FileIsRefused : {K : Type 0} → (K → Accepts) → Start K → FileView → Stop → Type 0
-FileIsRefused accepts start file stop = ForSome file.reads (IsRefused accepts start stop)
+abbrev pub FileIsRefused : {K : Type 0} → (K → Accepts) → Start K → FileView → OpenError → Type 0
+FileIsRefused accepts start file error = ForSome file.reads (λ bytes. IsWrong accepts start bytes error)
 
 -- what a stop leaves of it meanwhile
-abbrev pub SyncsTask : {K T : Type 0} → (K → Accepts) → Start K → Task → FileView → FileView → Result T Stop → Type 0
-SyncsTask accepts start task old new r = SyncsOrStops accepts start (IsOnWayOf accepts task) old new r
+abbrev pub SyncsTask : {K T : Type 0} → (K → Accepts) → Start K → Task → FileView → FileView → Result T OpenError → Type 0
+SyncsTask accepts start task old new r = SyncsWayOrFails accepts start (IsOnWayOf accepts task) old new r

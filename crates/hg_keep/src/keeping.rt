@@ -2,16 +2,16 @@ ghost use Rattle.std.specs.Prelude.{◌≡◌, ◌<◌, ◌≤◌, ℕ, List, If
 ghost use Rattle.hg_journal.specs.Faults.{IsFaultCounted};
 ghost use Rattle.hg_journal.specs.Stored.{StoresNode};
 ghost use Rattle.hg_keep.specs.Keeping.{IsMadeWithOf};
-ghost use Rattle.hg_keep.specs.Stops.{IsFaultTold, SparesOthers, StaysIfRefused, StopsLeaveOf};
+ghost use Rattle.hg_keep.specs.Stops.{SparesOthers, StaysIfRefused, StopsLeaveOf};
+ghost use Rattle.hg_keep.specs.Stores.{open_error_of};
 ghost use Rattle.hg_keep.specs.Tasks.{DoesTask, FileIsRefused, IsDone, IsOnWayOf, SyncsTask, start_for};
 
 use crate::kept::Kept;
 use crate::making::make_at;
 use crate::putting::put_all;
 use crate::settling::settle;
-use crate::stop::{Stop, open_stop, store_stop};
 use hg_io::Disk;
-use hg_journal::{StoreError, Stored};
+use hg_journal::{OpenError, StoreError, Stored};
 use hg_life::Members;
 use hg_model::{Bytes, Member};
 use hg_play::block_of;
@@ -64,6 +64,16 @@ fn work<V: Signer + Drop, D: Disk>(
     })
 }
 
+/// What an error of a change comes to where it is told of the opened journal. A closed node is one whose disk has failed.
+pub fn open_error_of(error: StoreError) -> OpenError
+    ensures { result ≡ open_error_of error }
+{
+    match error {
+        StoreError::Disk | StoreError::Closed => OpenError::Disk,
+        StoreError::Memory => OpenError::Memory,
+    }
+}
+
 /// Opens the node of a member from its journal, which is made anew where there is none, puts events to it, makes the event that
 /// comes next, if a time is given for it, publishes all that the node's graph decides, and answers what came of each. Each
 /// change stands in the journal before the next one is begun.
@@ -73,28 +83,25 @@ pub fn keep<V: Signer + Drop, D: Disk>(
     members: &Members,
     keys: V,
     task: &Task<'_>,
-) -> Result<Kept, Stop>
+) -> Result<Kept, OpenError>
     requires { task.now.own < length members.now.entries }
     // What came of it is that of the node of the file's journal, and the journal is then the node's after it.
     ensures kept { IfOk result (DoesTask V.accepts members.now task.now keys (D.file disk.old) (D.file disk.new)) }
     // The file is foreign, or broken at the place, just where the answer says so; and it stays.
     ensures wrong { IfErr result (FileIsRefused V.accepts (start_for members.now task.now keys) (D.file disk.old)) }
-    ensures refused { IfErr result (λ stop. StaysIfRefused stop (D.file disk.old) (D.file disk.new)) }
+    ensures refused { IfErr result (λ error. StaysIfRefused error (D.file disk.old) (D.file disk.new)) }
     // Whatever is answered, such a file stays.
     ensures spared { SparesOthers V.accepts (start_for members.now task.now keys) (D.file disk.old) (D.file disk.new) }
     // The disk tells the file just where it did.
     ensures shown { is_some (D.file disk.new).reads ≡ is_some (D.file disk.old).reads }
     // From the first sync on a stop leaves the journal of a node on the way; or the disk failed before that was done.
     ensures synced { SyncsTask V.accepts (start_for members.now task.now keys) task.now (D.file disk.old) (D.file disk.new) result }
-    ensures cause { IsFaultTold result (D.faults disk.old) (D.faults disk.new) task.now.journal.now }
+    ensures cause { IsFaultCounted result OpenError.Disk (D.faults disk.old) (D.faults disk.new) task.now.journal.now }
     ensures counts { (other : List ℕ) → D.faults disk.old other ≤ D.faults disk.new other }
 {
-    let mut stored = match Stored::open(alloc, disk, task.journal, members, task.own, keys) {
-        Ok(stored) => stored,
-        Err(error) => return Err(open_stop(error)),
-    };
+    let mut stored = Stored::open(alloc, disk, task.journal, members, task.own, keys)?;
     match work(alloc, &mut stored, disk, members, task) {
         Ok(kept) => Ok(kept),
-        Err(error) => Err(store_stop(error)),
+        Err(error) => Err(open_error_of(error)),
     }
 }

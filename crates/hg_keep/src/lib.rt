@@ -8,7 +8,7 @@
 //! ```text
 //! match hg_keep::keep(alloc, disk, members, keys, task) {
 //!     Ok(kept) => status_of(write_kept(&kept, out)),
-//!     Err(stop) => stop_status(stop),
+//!     Err(error) => open_status(error),
 //! }
 //! ```
 #![tactic(auto)]
@@ -20,13 +20,11 @@ mod making;
 mod printing;
 mod putting;
 mod settling;
-mod stop;
 
 pub use events::{EventFault, read_events};
-pub use keeping::{Task, keep};
+pub use keeping::{Task, keep, open_error_of};
 pub use kept::{Counts, Kept, Making};
 pub use making::make_next;
 pub use printing::write_kept;
 pub use putting::put_all;
 pub use settling::settle;
-pub use stop::{Stop, open_stop, store_stop};

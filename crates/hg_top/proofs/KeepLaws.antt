@@ -8,21 +8,23 @@ use Rattle.hg_io.specs.declared.disk.Disk as disk
 use Rattle.hg_io.specs.declared.sink.Sink as sink
 use Rattle.hg_io.proofs.Going.{stays_same}
 use Rattle.hg_life.specs.Signing.{accepts_by}
+use Rattle.hg_journal.specs.Faults.{IsFaultCounted}
 use Rattle.hg_journal.specs.Journal.{reading_of}
+use Rattle.hg_journal.specs.Opening.{IsWrong}
 use Rattle.hg_journal.specs.Reading.{Reading, state_in}
 use Rattle.hg_journal.specs.Reading as R
+use Rattle.hg_journal.specs.declared.errors.OpenError.{OpenError}
+use Rattle.hg_journal.specs.declared.errors.OpenError.TheVariants as open_error
 use Rattle.hg_keep.specs.Keeping.{IsOnTheWay}
-use Rattle.hg_keep.specs.Stops.{IsFaultTold, IsRefused, KeepsTask, StaysIfRefused, SyncsOrStops}
+use Rattle.hg_keep.specs.Stops.{KeepsTask, StaysIfRefused, SyncsWayOrFails}
 use Rattle.hg_keep.specs.Text.{kept_text}
 use Rattle.hg_keep.specs.declared.kept.Kept.{Kept}
-use Rattle.hg_keep.specs.declared.stop.Stop.{Stop}
-use Rattle.hg_keep.specs.declared.stop.Stop.TheVariants as stop
 use Rattle.hg_top.specs.declared.status.JournalFault.{JournalFault}
 use Rattle.hg_top.specs.declared.status.JournalFault.TheVariants.{Foreign, Broken}
 use Rattle.hg_top.specs.declared.status.Status.{Status}
 use Rattle.hg_top.specs.declared.status.Status.TheVariants.{Done, ReadFault, Usage, Members, Own, Script, Events, WriteFault, Memory, Disk, Journal, Proof, Wire}
 use Rattle.hg_top.specs.Course.{Course, DiskCourse, HasDiskFault, HasWriteFault, IsIdle, IsStill, disk_course, no_disk}
-use Rattle.hg_top.specs.Keeps.{KeepEnds, KeepSpares, KeepSyncs, keep_status, start_for, status_for, stop_of, stop_status}
+use Rattle.hg_top.specs.Keeps.{KeepEnds, KeepSpares, KeepSyncs, error_of, keep_status, open_status, start_for, status_for}
 use Rattle.hg_top.specs.Work.{KeepWork}
 use Rattle.hg_top.specs.Writing.{Gives, status_of}
 
@@ -47,7 +49,7 @@ text_due first v (R.Broken at) is = grind arith
 text_due first v (R.Holds w) is = refl
 
 -- .. and of what is refused just that
-pub refused_due : (k : KeepWork) (bytes : List ℕ) (why : JournalFault) → IsRefused accepts_by (start_for k) (stop_of why) bytes → Journal why ≡ keep_status k bytes
+pub refused_due : (k : KeepWork) (bytes : List ℕ) (why : JournalFault) → IsWrong accepts_by (start_for k) bytes (error_of why) → Journal why ≡ keep_status k bytes
 refused_due k bytes Foreign is = rw is refl
 refused_due k bytes (Broken at) is = rw is refl
 
@@ -72,13 +74,13 @@ completes_keep k c (Wire refusal) ends written kept = absurd ends
 -- ---- what comes of the work
 
 -- where the disk, memory or the journal stops it
-pub stopped : {T : Type 0} (k : KeepWork) (d : DiskCourse) (before after : Option (List ℕ)) (m n : ℕ) (r : Result T Stop) (s : Stop) →
-    r ≡ Err s → after ≡ before → IsFaultTold r d.faults_before d.faults_after k.journal →
-    ForSome d.before.reads (IsRefused accepts_by (start_for k) s) → StaysIfRefused s d.before d.after → KeepEnds k d before after m n (stop_status s)
-stopped k d before after m n r stop.Disk is same cause wrong refused = (same, cause is)
-stopped k d before after m n r stop.Memory is same cause wrong refused = same
-stopped k d before after m n r stop.Foreign is same cause wrong refused = (same, refused, wrong)
-stopped k d before after m n r (stop.Broken at) is same cause wrong refused = (same, refused, wrong)
+pub stopped : {T : Type 0} (k : KeepWork) (d : DiskCourse) (before after : Option (List ℕ)) (m n : ℕ) (r : Result T OpenError) (s : OpenError) →
+    r ≡ Err s → after ≡ before → IsFaultCounted r open_error.Disk d.faults_before d.faults_after k.journal →
+    ForSome d.before.reads (λ bytes. IsWrong accepts_by (start_for k) bytes s) → StaysIfRefused s d.before d.after → KeepEnds k d before after m n (open_status s)
+stopped k d before after m n r open_error.Disk is same cause wrong refused = (same, cause is)
+stopped k d before after m n r open_error.Memory is same cause wrong refused = same
+stopped k d before after m n r open_error.Foreign is same cause wrong refused = (same, refused, wrong)
+stopped k d before after m n r (open_error.Broken at) is same cause wrong refused = (same, refused, wrong)
 
 -- and where its text was written
 pub told : {S E : Type 0} (K : sink.Ghosts S) (out written : S) (k : KeepWork) (d : DiskCourse) (kept : Kept) (r : Result ⊤ E) →
@@ -88,18 +90,18 @@ told K out written k d kept (Ok x) task prints = (kept_text kept, (kept, task, r
 told K out written k d kept (Err e) task prints = (prints.1, (kept_text kept, (kept, task, refl), prints.0))
 
 -- what a stop of the machine leaves, in both cases
-early_by : {T : Type 0} (r : Result T Stop) (s : Stop) → r ≡ Err s → IsErrOf r stop.Disk → s ≡ stop.Disk
+early_by : {T : Type 0} (r : Result T OpenError) (s : OpenError) → r ≡ Err s → IsErrOf r open_error.Disk → s ≡ open_error.Disk
 early_by r s is other = grind arith
 
-synced_at : (k : KeepWork) (d : DiskCourse) (s : Stop) → s ≡ stop.Disk → IsStill d → KeepSyncs k d (stop_status s)
+synced_at : (k : KeepWork) (d : DiskCourse) (s : OpenError) → s ≡ open_error.Disk → IsStill d → KeepSyncs k d (open_status s)
 synced_at k d s is still = rw is (inr (tt, still))
 
-pub stopped_synced : {T : Type 0} (k : KeepWork) (d : DiskCourse) (r : Result T Stop) (s : Stop) → r ≡ Err s →
-    SyncsOrStops accepts_by (start_for k) (IsOnTheWay accepts_by k.events k.time) d.before d.after r → KeepSyncs k d (stop_status s)
+pub stopped_synced : {T : Type 0} (k : KeepWork) (d : DiskCourse) (r : Result T OpenError) (s : OpenError) → r ≡ Err s →
+    SyncsWayOrFails accepts_by (start_for k) (IsOnTheWay accepts_by k.events k.time) d.before d.after r → KeepSyncs k d (open_status s)
 stopped_synced k d r s is (inl syncs) = inl syncs
 stopped_synced k d r s is (inr early) = synced_at k d s (early_by r s is early.0) early.1
 
-pub told_synced : (k : KeepWork) (d : DiskCourse) (r : Result Kept Stop) (kept : Kept) (status : Status) → r ≡ Ok kept →
-    SyncsOrStops accepts_by (start_for k) (IsOnTheWay accepts_by k.events k.time) d.before d.after r → KeepSyncs k d status
+pub told_synced : (k : KeepWork) (d : DiskCourse) (r : Result Kept OpenError) (kept : Kept) (status : Status) → r ≡ Ok kept →
+    SyncsWayOrFails accepts_by (start_for k) (IsOnTheWay accepts_by k.events k.time) d.before d.after r → KeepSyncs k d status
 told_synced k d r kept status is (inl syncs) = inl syncs
 told_synced k d r kept status is (inr early) = absurd (let no = sym is ∙ early.0 in grind arith)

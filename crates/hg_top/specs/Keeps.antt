@@ -6,15 +6,16 @@ use Rattle.hg_life.specs.Members.{MemberList}
 use Rattle.hg_life.specs.NodeView.{Start, start_of}
 use Rattle.hg_life.specs.Signing.{accepts_by, secrets_of}
 use Rattle.hg_journal.specs.Journal.{reading_of}
+use Rattle.hg_journal.specs.Opening.{IsWrong}
 use Rattle.hg_journal.specs.Reading.{Reading}
 use Rattle.hg_journal.specs.Reading as R
+use Rattle.hg_journal.specs.declared.errors.OpenError.{OpenError}
+use Rattle.hg_journal.specs.declared.errors.OpenError.TheVariants as open_error
 use Rattle.hg_keep.specs.Keeping.{IsOnTheWay}
-use Rattle.hg_keep.specs.Stops.{IsRefused, KeepsTask, SparesOthers, SyncsOnTheWay}
+use Rattle.hg_keep.specs.Stops.{KeepsTask, SparesOthers, SyncsOnTheWay}
 use Rattle.hg_keep.specs.Text.{kept_text}
 use Rattle.hg_keep.specs.declared.keeping.Task.{Task}
 use Rattle.hg_keep.specs.declared.kept.Kept.{Kept}
-use Rattle.hg_keep.specs.declared.stop.Stop.{Stop}
-use Rattle.hg_keep.specs.declared.stop.Stop.TheVariants as stop
 use Rattle.hg_top.specs.declared.status.JournalFault.{JournalFault}
 use Rattle.hg_top.specs.declared.status.JournalFault.TheVariants.{Foreign, Broken}
 use Rattle.hg_top.specs.declared.status.Status.{Status}
@@ -40,23 +41,23 @@ IsKeptText k d text =
     × KeepsTask accepts_by k.members (start_for k) k.events k.time d.before d.after kept
     × (text ≡ kept_text kept)
 
--- the statuses of what stops the work, and which stop a fault of the journal is
-abbrev pub stop_status : Stop → Status
-stop_status stop.Disk = Disk
-stop_status stop.Memory = Memory
-stop_status stop.Foreign = Journal Foreign
-stop_status (stop.Broken at) = Journal (Broken at)
+-- the statuses of the errors of opening a journal, and which error a fault of the journal is
+abbrev pub open_status : OpenError → Status
+open_status open_error.Disk = Disk
+open_status open_error.Memory = Memory
+open_status open_error.Foreign = Journal Foreign
+open_status (open_error.Broken at) = Journal (Broken at)
 
-abbrev pub stop_of : JournalFault → Stop
-stop_of Foreign = stop.Foreign
-stop_of (Broken at) = stop.Broken at
+abbrev pub error_of : JournalFault → OpenError
+error_of Foreign = open_error.Foreign
+error_of (Broken at) = open_error.Broken at
 
 -- How it ended: the disk failed at the journal's name; or the file that it tells is so refused, and stays; or the text went
 -- to standard output, whose bytes and faults are told as in `Wrote`
 abbrev pub KeepEnds : KeepWork → DiskCourse → Option (List ℕ) → Option (List ℕ) → ℕ → ℕ → Status → Type 0
 KeepEnds k d before after faults_before faults_after Disk = (after ≡ before) × HasDiskFault d k.journal
 KeepEnds k d before after faults_before faults_after (Journal why) =
-    (after ≡ before) × IsStill d × ForSome d.before.reads (IsRefused accepts_by (start_for k) (stop_of why))
+    (after ≡ before) × IsStill d × ForSome d.before.reads (λ bytes. IsWrong accepts_by (start_for k) bytes (error_of why))
 KeepEnds k d before after faults_before faults_after status =
     Wrote (IsKeptText k d) before after faults_before faults_after status
 

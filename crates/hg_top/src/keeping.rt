@@ -2,13 +2,13 @@ ghost use Rattle.std.specs.Prelude.{◌≡◌, ◌<◌, Some, IfSome, length};
 ghost use Rattle.hg_top.specs.Commands.{files_of, keep_work, own_in, own_work};
 ghost use Rattle.hg_top.specs.Course.{course, disk_course};
 ghost use Rattle.hg_top.specs.Ends.{Ends};
-ghost use Rattle.hg_top.specs.Keeps.{KeptOn, stop_status, work_on};
+ghost use Rattle.hg_top.specs.Keeps.{KeptOn, open_status, work_on};
 
 use crate::reading::{events_from, members_from};
 use crate::status::{JournalFault, Status, status_of};
 use hg_io::{Disk, Shelf, Sink};
 use hg_journal::{OpenError, StoreError};
-use hg_keep::{Stop, Task, open_stop, store_stop, write_kept};
+use hg_keep::{Task, open_error_of, write_kept};
 use hg_life::Members;
 use hg_model::{Member, Memory};
 use hg_sign::MacTable;
@@ -40,15 +40,15 @@ pub fn own_in(members: &Members, name: &str) -> Option<Member>
     }
 }
 
-/// What a call comes to by what stops the work on a node.
-fn stop_status(stop: Stop) -> Status
-    ensures { result ≡ stop_status stop }
+/// What a call comes to by why a journal was not opened.
+fn open_status(error: OpenError) -> Status
+    ensures { result ≡ open_status error }
 {
-    match stop {
-        Stop::Disk => Status::Disk,
-        Stop::Memory => Status::Memory,
-        Stop::Foreign => Status::Journal(JournalFault::Foreign),
-        Stop::Broken(at) => Status::Journal(JournalFault::Broken(at)),
+    match error {
+        OpenError::Disk => Status::Disk,
+        OpenError::Memory => Status::Memory,
+        OpenError::Foreign => Status::Journal(JournalFault::Foreign),
+        OpenError::Broken(at) => Status::Journal(JournalFault::Broken(at)),
     }
 }
 
@@ -63,22 +63,20 @@ impl From<Memory> for Status {
 }
 
 impl From<OpenError> for Status {
-    ghost use Rattle.hg_keep.specs.Stores.{open_stop};
-
-    ghost from_gives = { λ error status. status ≡ stop_status (open_stop error) };
+    ghost from_gives = { λ error status. status ≡ open_status error };
 
     fn from(error: OpenError) -> Status {
-        stop_status(open_stop(error))
+        open_status(error)
     }
 }
 
 impl From<StoreError> for Status {
-    ghost use Rattle.hg_keep.specs.Stores.{store_stop};
+    ghost use Rattle.hg_keep.specs.Stores.{open_error_of};
 
-    ghost from_gives = { λ error status. status ≡ stop_status (store_stop error) };
+    ghost from_gives = { λ error status. status ≡ open_status (open_error_of error) };
 
     fn from(error: StoreError) -> Status {
-        stop_status(store_stop(error))
+        open_status(open_error_of(error))
     }
 }
 
@@ -99,7 +97,7 @@ fn keep_node<D: Disk, K: Sink>(
     };
     match hg_keep::keep(alloc, disk, members, keys, task) {
         Ok(kept) => status_of(write_kept(&kept, out)),
-        Err(stop) => stop_status(stop),
+        Err(error) => open_status(error),
     }
 }
 

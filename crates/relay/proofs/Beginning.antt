@@ -14,16 +14,13 @@ use Rattle.hg_journal.specs.Stored.{StoredView, StoresNode}
 use Rattle.hg_journal.specs.declared.errors.OpenError.{OpenError}
 use Rattle.hg_journal.specs.declared.errors.OpenError.TheVariants as open_error
 use Rattle.hg_keep.specs.Keeping.{settled}
-use Rattle.hg_keep.specs.Stores.{open_stop}
-use Rattle.hg_keep.specs.declared.stop.Stop.{Stop}
-use Rattle.hg_keep.specs.declared.stop.Stop.TheVariants as stop
 use Rattle.hg_keep.proofs.StopLaws.{some_value}
 use Rattle.hg_keep.proofs.TaskLaws.{syncs_open, syncs_work}
 use Rattle.hg_life.specs.Members.{MemberList}
 use Rattle.hg_life.specs.NodeView.{NodeView, Start, start_of}
 use Rattle.hg_life.specs.Signing.{Accepts}
 use Rattle.hg_play.specs.Sites.{IsMadeWith}
-use Rattle.hg_top.specs.Keeps.{stop_status}
+use Rattle.hg_top.specs.Keeps.{open_status}
 use Rattle.hg_top.specs.declared.status.Status.{Status}
 use Rattle.hg_top.specs.declared.status.Status.TheVariants as status
 use Rattle.relay.specs.declared.gossip.Outside.{Outside}
@@ -43,13 +40,13 @@ err_is : {T : Type 0} (r : Result T Status) (s : Status) → IsErrAnd r (λ x. x
 err_is (Ok x) s is = absurd is
 err_is {T} (Err e) s is = ap (λ (x : Status). (let r : Result T Status = Err x in r)) is
 
-disk_stopped : (e : OpenError) → (let r : Result Unit Stop = Err (open_stop e) in r) ≡ Err stop.Disk → stop_status (open_stop e) ≡ status.Disk
+disk_stopped : (e : OpenError) → (let r : Result Unit OpenError = Err e in r) ≡ Err open_error.Disk → open_status e ≡ status.Disk
 disk_stopped open_error.Disk is = refl
 disk_stopped open_error.Memory is = absurd cc
 disk_stopped open_error.Foreign is = absurd cc
 disk_stopped (open_error.Broken at) is = absurd cc
 
-disk_failed : {T : Type 0} (e : OpenError) → IsErrOf (let r : Result T OpenError = Err e in r) open_error.Disk → (let r : Result Unit Stop = Err (open_stop e) in r) ≡ Err stop.Disk
+disk_failed : {T : Type 0} (e : OpenError) → IsErrOf (let r : Result T OpenError = Err e in r) open_error.Disk → (let r : Result Unit OpenError = Err e in r) ≡ Err open_error.Disk
 disk_failed open_error.Disk is = refl
 disk_failed open_error.Memory is = absurd cc
 disk_failed open_error.Foreign is = absurd cc
@@ -58,24 +55,24 @@ disk_failed (open_error.Broken at) is = absurd cc
 module _ {K : Type 0} (accepts : K → Accepts) (start : Start K) where
   -- ---- what stops leave
 
-  failed_syncs : {T U : Type 0} (old new : FileView) (e : OpenError) (s : Result U Status) → IsErrAnd s (λ x. x ≡ stop_status (open_stop e)) → SyncsOrFails accepts start old new (let r : Result T OpenError = Err e in r) → RelaySyncs accepts start old new s
+  failed_syncs : {T U : Type 0} (old new : FileView) (e : OpenError) (s : Result U Status) → IsErrAnd s (λ x. x ≡ open_status e) → SyncsOrFails accepts start old new (let r : Result T OpenError = Err e in r) → RelaySyncs accepts start old new s
   failed_syncs {T} {U} old new e s is syncs = ⊎_elim (λ x. inl x)
-      (λ fails. inr (err_is s (stop_status (open_stop e)) is ∙ ap (λ (x : Status). (let r : Result U Status = Err x in r)) (disk_stopped e fails.0), fails.1))
-      (syncs_open accepts start (IsRelayed accepts) (still accepts) old new (let r : Result T OpenError = Err e in r) (let r : Result Unit Stop = Err (open_stop e) in r) (disk_failed e) syncs)
+      (λ fails. inr (err_is s (open_status e) is ∙ ap (λ (x : Status). (let r : Result U Status = Err x in r)) (disk_stopped e fails.0), fails.1))
+      (syncs_open accepts start (IsRelayed accepts) (still accepts) old new (let r : Result T OpenError = Err e in r) (let r : Result Unit OpenError = Err e in r) (disk_failed e) syncs)
 
-  pub open_syncs : {T U : Type 0} (old new : FileView) (e : OpenError) (s : Result U Status) → IsErrAnd s (λ x. x ≡ stop_status (open_stop e)) → SyncsOrFails accepts start old new (let r : Result T OpenError = Err e in r) → RelaySyncs accepts start old new s
+  pub open_syncs : {T U : Type 0} (old new : FileView) (e : OpenError) (s : Result U Status) → IsErrAnd s (λ x. x ≡ open_status e) → SyncsOrFails accepts start old new (let r : Result T OpenError = Err e in r) → RelaySyncs accepts start old new s
   open_syncs old new e s is syncs = failed_syncs old new e s is syncs
 
   never : {T : Type 0} (x : T) → IsErrOf (let r : Result T OpenError = Ok x in r) open_error.Disk → ⊥
   never x is = absurd cc
 
-  no_stop : (let r : Result Unit Stop = Ok tt in r) ≡ Err stop.Disk → ⊥
-  no_stop is = absurd cc
+  no_fault : (let r : Result Unit OpenError = Ok tt in r) ≡ Err open_error.Disk → ⊥
+  no_fault is = absurd cc
 
   pub gossip_syncs : {T U : Type 0} (old mid new : FileView) (x : T) (node : Option (NodeView K)) (s : Result U Status) → SyncsOrFails accepts start old mid (let r : Result T OpenError = Ok x in r) → is_some mid.reads ≡ is_some old.reads
       → ForSome old.reads (λ bytes. journal accepts start bytes ≡ node) → ForSome node (λ v. v.start ≡ start) → StopsRelayOf accepts node mid new → RelaySyncs accepts start old new s
-  gossip_syncs {T} old mid new x node s syncs shown opens begins stops = ⊎_elim (λ y. inl y) (λ fails. absurd (no_stop fails.0))
-      (syncs_work accepts start (IsRelayed accepts) (still accepts) old mid new (let r : Result T OpenError = Ok x in r) node (let r : Result Unit Stop = Ok tt in r) (never x) syncs shown opens begins stops)
+  gossip_syncs {T} old mid new x node s syncs shown opens begins stops = ⊎_elim (λ y. inl y) (λ fails. absurd (no_fault fails.0))
+      (syncs_work accepts start (IsRelayed accepts) (still accepts) old mid new (let r : Result T OpenError = Ok x in r) node (let r : Result Unit OpenError = Ok tt in r) (never x) syncs shown opens begins stops)
 
   -- ---- what came of it
 
@@ -110,7 +107,7 @@ module _ {K : Type 0} (accepts : K → Accepts) (start : Start K) where
   module _ {A B C : Type 0} (D : disk.Ghosts A) (S : source.Ghosts B) (T : sink.Ghosts C) (name : List ℕ) (out : Outside A B C) (d : A) where
     pub open_halts : {X : Type 0} (e : OpenError) → IsFaultCounted (let r : Result X OpenError = Err e in r) open_error.Disk (D.faults out.disk) (D.faults d) name → StaysUnlessDisk e (D.file out.disk) (D.file d)
         → (node_of : X → Option (NodeView K)) → ForSome (D.file out.disk).reads (Opens accepts start node_of (Err e))
-        → IsHalted accepts start (moment D S T (unopened name) out) (moment D S T (unopened name) (record out { disk = d })) (stop_status (open_stop e))
+        → IsHalted accepts start (moment D S T (unopened name) out) (moment D S T (unopened name) (record out { disk = d })) (open_status e)
     open_halts open_error.Disk cause stays node_of opens = Ended (Unkept refl (cause refl))
     open_halts open_error.Memory cause stays node_of opens = Ended (NoMemory refl)
     open_halts open_error.Foreign cause stays node_of opens = OfOthers refl stays opens

@@ -13,9 +13,9 @@ use Rattle.hg_journal.specs.Stored.{StoredView, StoresNode}
 use Rattle.hg_journal.specs.declared.errors.StoreError.{StoreError}
 use Rattle.hg_journal.specs.declared.errors.StoreError.TheVariants as store_error
 use Rattle.hg_keep.specs.Stops.{StopsLeaveOf}
-use Rattle.hg_keep.specs.Stores.{store_stop}
+use Rattle.hg_keep.specs.Stores.{open_error_of}
 use Rattle.hg_keep.proofs.WayLaws.{stops_still}
-use Rattle.hg_top.specs.Keeps.{stop_status}
+use Rattle.hg_top.specs.Keeps.{open_status}
 use Rattle.hg_top.specs.declared.status.Status.{Status}
 use Rattle.hg_exchange.specs.declared.message.MessageFault.TheVariants as message
 use Rattle.hg_top.specs.declared.status.Refusal.TheVariants.{Fault}
@@ -182,7 +182,7 @@ module _ {K : Type 0} (accepts : K → Accepts) where
 
       -- why a change was not stored
       pub unkept : {X : Type 0} (r : Result X StoreError) (e : StoreError) → r ≡ Err e → IsFaultCounted r store_error.Disk (D.faults out.disk) (D.faults after) stored.name → (IsErrOf r store_error.Closed → ⊥)
-          → HasCause (moment D S T stored out) (moment D S T kept (record out { disk = after })) (stop_status (store_stop e))
+          → HasCause (moment D S T stored out) (moment D S T kept (record out { disk = after })) (open_status (open_error_of e))
       unkept r store_error.Disk is cause never = Unkept refl (subst (λ (n : List ℕ). Rose (D.faults out.disk stored.name) (D.faults after n)) (sym name) (cause is))
       unkept r store_error.Closed is cause never = absurd (never is)
       unkept r store_error.Memory is cause never = NoMemory refl

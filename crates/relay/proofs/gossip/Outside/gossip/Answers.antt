@@ -1,8 +1,8 @@
 use Rattle.std.proofs.Common.{◌≡◌, ℕ, suc, ◌+◌, ◌-◌, ◌^◌, ◌∙◌, ap, subst, arith}
 use Rattle.std.specs.Prelude.{min}
 use Rattle.hg_keep.specs.Keeping.{IsSettledSome}
-use Rattle.hg_keep.specs.Stores.{store_stop}
-use Rattle.hg_top.specs.Keeps.{stop_status}
+use Rattle.hg_keep.specs.Stores.{open_error_of}
+use Rattle.hg_top.specs.Keeps.{open_status}
 use Rattle.relay.specs.Exchanges.{AreExchangesOf}
 use Rattle.relay.specs.Moments.{moment}
 use Rattle.relay.specs.Steps.{Settles}
@@ -61,8 +61,8 @@ returns-in_err-settle-clause-gossips g c =
     let e = c.in_err-settle.field-0.0 in
     let done = worked accepts D S T stored out so_far.ready kept disk c.settle.ensures.name c.settle.ensures.counts IsSettledSome (λ v w some. Settles some) c.settle.ensures.shown c.settle.ensures.stops in
     let cause = unkept accepts D S T stored out so_far.ready kept disk c.settle.ensures.name c.settle.ensures.counts c.settle.result e c.in_err-settle.was c.settle.ensures.cause c.settle.ensures.never in
-    fails accepts a last c.from_residual-in_err-settle.result (stop_status (store_stop e)) c.from_residual-in_err-settle.ensures.1 (passed_on accepts a b last so_far.relays so_far.passed done)
-    (cause_on accepts a b last (stop_status (store_stop e)) so_far.passed cause)
+    fails accepts a last c.from_residual-in_err-settle.result (open_status (open_error_of e)) c.from_residual-in_err-settle.ensures.1 (passed_on accepts a b last so_far.relays so_far.passed done)
+    (cause_on accepts a b last (open_status (open_error_of e)) so_far.passed cause)
 
 pub returns-clause-gossips : goal.returns-clause-gossips
 returns-clause-gossips g c =

@@ -1,7 +1,7 @@
 use Rattle.std.proofs.Common.{Some}
 use Rattle.hg_keep.specs.Keeping.{IsMadeSome, IsPutSome}
-use Rattle.hg_keep.specs.Stores.{store_stop}
-use Rattle.hg_top.specs.Keeps.{stop_status}
+use Rattle.hg_keep.specs.Stores.{open_error_of}
+use Rattle.hg_top.specs.Keeps.{open_status}
 use Rattle.relay.specs.Moments.{moment}
 use Rattle.relay.specs.Steps.{Makes, Puts}
 use Rattle.relay.proofs.Leading.{exchanges_of, relays_on, relays_put, relays_turn, there_relays}
@@ -31,8 +31,8 @@ returns-in_err-put_all-clause-gossips g c =
     let e = c.in_err-put_all.field-0.0 in
     let done = worked accepts D S T stored out first.1 kept disk c.put_all.ensures.name c.put_all.ensures.counts (IsPutSome accepts c.rows_of.result.now) (λ v w some. Puts c.rows_of.result.now some) c.put_all.ensures.shown c.put_all.ensures.stops in
     let cause = unkept accepts D S T stored out first.1 kept disk c.put_all.ensures.name c.put_all.ensures.counts c.put_all.result e c.in_err-put_all.was c.put_all.ensures.cause c.put_all.ensures.never in
-    fails accepts a last c.from_residual-in_err-put_all.result (stop_status (store_stop e)) c.from_residual-in_err-put_all.ensures.1 (passed_on accepts a b last first.2 first.0 done)
-    (cause_on accepts a b last (stop_status (store_stop e)) first.0 cause)
+    fails accepts a last c.from_residual-in_err-put_all.result (open_status (open_error_of e)) c.from_residual-in_err-put_all.ensures.1 (passed_on accepts a b last first.2 first.0 done)
+    (cause_on accepts a b last (open_status (open_error_of e)) first.0 cause)
 
 pub make_next-requires-clause-there : goal.make_next-requires-clause-there
 make_next-requires-clause-there g c =
@@ -69,8 +69,8 @@ returns-in_err-make_next-clause-gossips g c =
     let done = worked accepts D S T kept mid_out ready made later c.make_next.ensures.name c.make_next.ensures.counts (IsMadeSome accepts (Some c.args.time)) (λ v w some. Makes c.args.time some) c.make_next.ensures.shown c.make_next.ensures.stops in
     let cause = unkept accepts D S T kept mid_out ready made later c.make_next.ensures.name c.make_next.ensures.counts c.make_next.result e c.in_err-make_next.was c.make_next.ensures.cause c.make_next.ensures.never in
     let so_far = passed_on accepts a b mid first.2 first.0 put in
-    fails accepts a last c.from_residual-in_err-make_next.result (stop_status (store_stop e)) c.from_residual-in_err-make_next.ensures.1
-    (passed_on accepts a mid last (relays_on accepts stored.node stored.node kept.node first.2 relays) so_far done) (cause_on accepts a mid last (stop_status (store_stop e)) so_far cause)
+    fails accepts a last c.from_residual-in_err-make_next.result (open_status (open_error_of e)) c.from_residual-in_err-make_next.ensures.1
+    (passed_on accepts a mid last (relays_on accepts stored.node stored.node kept.node first.2 relays) so_far done) (cause_on accepts a mid last (open_status (open_error_of e)) so_far cause)
 
 pub returns-clause-gossips : goal.returns-clause-gossips
 returns-clause-gossips g c =

@@ -1,6 +1,5 @@
-use Rattle.hg_keep.specs.Stores.{open_stop}
 use Rattle.hg_life.specs.NodeView.{start_of}
-use Rattle.hg_top.specs.Keeps.{stop_status}
+use Rattle.hg_top.specs.Keeps.{open_status}
 use Rattle.relay.specs.Moments.{moment}
 use Rattle.relay.specs.Relaying.{Ended, IsHalted, outside, unopened}
 use Rattle.relay.proofs.Beginning.{errs, gossip_halts, gossip_syncs, open_halts, open_syncs, relays_stored}
@@ -22,7 +21,7 @@ returns-in_err-stored-clause-halted g c =
     let name = c.args.asked.now.disk.now in
     let disk = c.open.new.disk in
     let e = c.in_err-stored.field-0.0 in
-    errs c.from_residual.result (stop_status (open_stop e)) (IsHalted accepts start (moment D S T (unopened name) out) (moment D S T (unopened name) (record out { disk = disk }))) c.from_residual.ensures.1
+    errs c.from_residual.result (open_status e) (IsHalted accepts start (moment D S T (unopened name) out) (moment D S T (unopened name) (record out { disk = disk }))) c.from_residual.ensures.1
     (open_halts accepts start D S T name out disk e c.in_err-stored.ensures.cause c.in_err-stored.ensures.refused (λ s. s.node) c.in_err-stored.ensures.opens)
 
 pub returns-in_err-gossip-clause-synced : goal.returns-in_err-gossip-clause-synced
