@@ -15,7 +15,7 @@ use Rattle.hg_journal.specs.declared.errors.OpenError.{OpenError}
 use Rattle.hg_journal.specs.declared.errors.OpenError.TheVariants as open_error
 use Rattle.hg_journal.specs.declared.errors.StoreError.{StoreError}
 use Rattle.hg_journal.specs.declared.errors.StoreError.TheVariants as store_error
-use Rattle.hg_keep.specs.declared.kept.Kept.{Kept}
+use Rattle.hg_keep.specs.declared.kept.KeepReport.{KeepReport}
 use Rattle.hg_keep.specs.Keeping.{IsKept, IsMadeWithOf, IsOnTheWay, KeptOf}
 use Rattle.hg_keep.specs.Stops.{KeepsSome, KeepsTask, SparesOthers, StaysIfRefused, StopsLeaveOf, SyncsOnTheWay, SyncsWayOrFails}
 use Rattle.hg_keep.specs.Stores.{open_error_of}
@@ -83,10 +83,10 @@ module _ {K : Type 0} (accepts : K → Accepts) (start : Start K) where
   pub own_way : (events : List (List ℕ)) (time : Option ℕ) (v : NodeView K) → IsOnTheWay accepts events time v v
   own_way events time v = inl (0, refl)
 
-  kept_start : (members : MemberList) (events : List (List ℕ)) (time : Option ℕ) (v w : NodeView K) (kept : Kept) → IsKept accepts members events time v kept w → w.start ≡ v.start
+  kept_start : (members : MemberList) (events : List (List ℕ)) (time : Option ℕ) (v w : NodeView K) (kept : KeepReport) → IsKept accepts members events time v kept w → w.start ≡ v.start
   kept_start members events time v w kept is = ap (λ (x : NodeView K). x.start) is.last ∙ makes_start accepts _ is.made time kept.made is.makes ∙ puts_start accepts v events
 
-  pub task_kept : (members : MemberList) (events : List (List ℕ)) (time : Option ℕ) (old new : FileView) (s t : StoredView K) (kept : Kept) → IsSome s.node
+  pub task_kept : (members : MemberList) (events : List (List ℕ)) (time : Option ℕ) (old new : FileView) (s t : StoredView K) (kept : KeepReport) → IsSome s.node
       → ForSome old.reads (λ bytes. journal accepts start bytes ≡ s.node) → ForSome s.node (λ v. v.start ≡ start) → KeptOf accepts members events time s.node t.node kept → StoresNode accepts new t
       → KeepsTask accepts members start events time old new kept
   task_kept members events time old new s t kept there opens begins keeps stores =

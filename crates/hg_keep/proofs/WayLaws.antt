@@ -29,15 +29,15 @@ use Rattle.hg_play.specs.Lines.{kept_block}
 use Rattle.hg_play.specs.Outcomes.{kept_outcome}
 use Rattle.hg_play.specs.Sites.{IsMadeWith}
 use Rattle.hg_journal.specs.Stored.{ComesOfMaking, MakesNode, StopsKeepMaking, StopsKeepMarks, StopsKeepPut, StoredView, StoresNode}
-use Rattle.hg_keep.specs.declared.kept.Counts.{Counts}
-use Rattle.hg_keep.specs.declared.kept.Kept.{Kept}
+use Rattle.hg_keep.specs.declared.kept.PutCounts.{PutCounts}
+use Rattle.hg_keep.specs.declared.kept.KeepReport.{KeepReport}
 use Rattle.hg_keep.specs.declared.kept.Making.{Making}
 use Rattle.hg_keep.specs.Keeping.{HasRow, IsMadeSome, IsMadeWithOf, IsOnTheWay, IsPutSome, IsSettledSome, IsTurn, KeptOf, MakesAt, MakesOf, PutsAll, SettlesOf, TurnOf, counted, no_counts, put_one, puts, settled, told_of}
 use Rattle.hg_keep.specs.Stops.{StopsLeave, StopsLeaveOf}
 use Rattle.hg_keep.proofs.StopLaws.{leaves_either, leaves_on, leaves_still, leaves_wider, some_is, some_value, told_still}
 
 module _ {K : Type 0} (accepts : K → Accepts) where
-  puts_start_from : (v : NodeView K × Counts) (events : List (List ℕ)) → (fold (put_one accepts) v events).0.start ≡ v.0.start
+  puts_start_from : (v : NodeView K × PutCounts) (events : List (List ℕ)) → (fold (put_one accepts) v events).0.start ≡ v.0.start
   puts_start_from v [] = refl
   puts_start_from v (bytes ∷ events) = puts_start_from (put_one accepts v bytes) events
 
@@ -59,7 +59,7 @@ module _ {K : Type 0} (accepts : K → Accepts) where
   puts_none node v is = (is, refl)
 
   -- one event more of these
-  pub puts_more : (first : Option (NodeView K)) (events : List (List ℕ)) (i : ℕ) (bytes : List ℕ) (now next : Option (NodeView K)) (counts more : Counts) →
+  pub puts_more : (first : Option (NodeView K)) (events : List (List ℕ)) (i : ℕ) (bytes : List ℕ) (now next : Option (NodeView K)) (counts more : PutCounts) →
       i < length events → bytes ≡ get_or events i bytes → IsSome now → PutsAll accepts (take i events) first now counts →
       ForSome now (λ v. (next ≡ Some (after_put accepts v bytes)) × (more ≡ counted counts (put_answer accepts v bytes))) →
       PutsAll accepts (take (i + 1) events) first next more
@@ -68,8 +68,8 @@ module _ {K : Type 0} (accepts : K → Accepts) where
       let last : fold (put_one accepts) (v, no_counts) (take (i + 1) events) ≡ put_one accepts (fold (put_one accepts) (v, no_counts) (take i events)) bytes =
       fold_more (put_one accepts) (v, no_counts) events i bytes within ∙ ap (put_one accepts (fold (put_one accepts) (v, no_counts) (take i events))) (sym at) in
       let one = step (puts accepts v (take i events)).0 here.0 in (
-        one.0 ∙ ap (λ (x : NodeView K × Counts). Some x.0) (sym last),
-        one.1 ∙ ap (λ (c : Counts). counted c (put_answer accepts (puts accepts v (take i events)).0 bytes)) here.1 ∙ ap (λ (x : NodeView K × Counts). x.1) (sym last),
+        one.0 ∙ ap (λ (x : NodeView K × PutCounts). Some x.0) (sym last),
+        one.1 ∙ ap (λ (c : PutCounts). counted c (put_answer accepts (puts accepts v (take i events)).0 bytes)) here.1 ∙ ap (λ (x : NodeView K × PutCounts). x.1) (sym last),
       )
 
   pub still_there : (now next : Option (NodeView K)) (bytes : List ℕ) → IsSome now → ForSome now (λ v. next ≡ Some (after_put accepts v bytes)) → IsSome next
@@ -81,14 +81,14 @@ module _ {K : Type 0} (accepts : K → Accepts) where
   stops_none file s events stores v is told = leaves_still accepts v.start (IsPutSome accepts events v) file v s.gate refl (0, refl) (stores v is) told
 
   -- .. and while one more is put
-  pub stops_more : (first : Option (NodeView K)) (events : List (List ℕ)) (i : ℕ) (bytes : List ℕ) (now : Option (NodeView K)) (counts : Counts) (a b c : FileView) →
+  pub stops_more : (first : Option (NodeView K)) (events : List (List ℕ)) (i : ℕ) (bytes : List ℕ) (now : Option (NodeView K)) (counts : PutCounts) (a b c : FileView) →
       i < length events → bytes ≡ get_or events i bytes → PutsAll accepts (take i events) first now counts → (is_some b.reads ≡ is_some a.reads) →
       StopsLeaveOf accepts (IsPutSome accepts events) first a b → StopsKeepPut accepts bytes b c now → StopsLeaveOf accepts (IsPutSome accepts events) first a c
   stops_more first events i bytes now counts a b c within at so_far shown before step v is told =
       let so = puts accepts v (take i events) in
       let keeps = step so.0 (so_far v is).0 (told_still a.reads b.reads shown told) in
       let last : (puts accepts v (take (i + 1) events)).0 ≡ after_put accepts so.0 bytes =
-      ap (λ (x : NodeView K × Counts). x.0)
+      ap (λ (x : NodeView K × PutCounts). x.0)
       (fold_more (put_one accepts) (v, no_counts) events i bytes within ∙ ap (put_one accepts (fold (put_one accepts) (v, no_counts) (take i events))) (sym at)) in
       leaves_on accepts v.start (IsPutSome accepts events v) a b c (before v is told)
       (leaves_either accepts v.start (IsPutSome accepts events v) b c so.0 keeps.0 (puts_start v (take i events))
@@ -186,7 +186,7 @@ module _ {K : Type 0} (accepts : K → Accepts) where
     pub stops_put : (node : Option (NodeView K)) (a b : FileView) → StopsLeaveOf accepts (IsPutSome accepts events) node a b → StopsLeaveOf accepts (IsOnTheWay accepts events time) node a b
     stops_put node a b stops v is told = leaves_wider accepts v.start (IsPutSome accepts events v) (IsOnTheWay accepts events time v) a b (λ w some. inl some) (stops v is told)
 
-    pub stops_made : (node next : Option (NodeView K)) (counts : Counts) (a b c : FileView) → PutsAll accepts events node next counts → is_some b.reads ≡ is_some a.reads
+    pub stops_made : (node next : Option (NodeView K)) (counts : PutCounts) (a b c : FileView) → PutsAll accepts events node next counts → is_some b.reads ≡ is_some a.reads
         → StopsLeaveOf accepts (IsPutSome accepts events) node a b → StopsLeaveOf accepts (IsMadeSome accepts time) next b c → StopsLeaveOf accepts (IsOnTheWay accepts events time) node a c
     stops_made node next counts a b c all shown first then v is told =
         let u = (puts accepts v events).0 in
@@ -197,7 +197,7 @@ module _ {K : Type 0} (accepts : K → Accepts) where
     way_settled : (v m w : NodeView K) (told : Option Making) → MakesAt accepts (puts accepts v events).0 time told m → IsSettledSome m w → IsOnTheWay accepts events time v w
     way_settled v m w told makes some = inr (m, told, makes, some)
 
-    pub stops_settled : (node next last : Option (NodeView K)) (counts : Counts) (told : Option Making) (a b c d : FileView) → PutsAll accepts events node next counts → MakesOf accepts time next last told
+    pub stops_settled : (node next last : Option (NodeView K)) (counts : PutCounts) (told : Option Making) (a b c d : FileView) → PutsAll accepts events node next counts → MakesOf accepts time next last told
         → is_some c.reads ≡ is_some a.reads → StopsLeaveOf accepts (IsOnTheWay accepts events time) node a c → StopsLeaveOf accepts IsSettledSome last c d
         → StopsLeaveOf accepts (IsOnTheWay accepts events time) node a d
     stops_settled node next last counts told a b c d all makes shown first then v is tells =
@@ -218,7 +218,7 @@ module _ {K : Type 0} (accepts : K → Accepts) where
         ∙ ap₂ (λ (n : Stakes) (c : ℕ). fame_marks n c (links (node_rows w)) (coin_at (node_rows w))) stakes coin)
 
     -- there is still a node after each part of the work
-    pub there_puts : (node next : Option (NodeView K)) (counts : Counts) → IsSome node → PutsAll accepts events node next counts → IsSome next
+    pub there_puts : (node next : Option (NodeView K)) (counts : PutCounts) → IsSome node → PutsAll accepts events node next counts → IsSome next
     there_puts node next counts there all = let v = some_value node there in subst (λ (o : Option (NodeView K)). IsSome o) (sym (all v.0 v.1).0) refl
 
     pub there_makes : (node next : Option (NodeView K)) (told : Option Making) → IsSome node → MakesOf accepts time node next told → IsSome next
@@ -228,7 +228,7 @@ module _ {K : Type 0} (accepts : K → Accepts) where
     there_settles node next there done = let v = some_value node there in subst (λ (o : Option (NodeView K)). IsSome o) (sym (done v.0 v.1).0) refl
 
     -- and it is one that was made with these members
-    pub made_still : (members : MemberList) (node next last final : Option (NodeView K)) (counts : Counts) (told : Option Making) (w : NodeView K) → IsSome node → PutsAll accepts events node next counts
+    pub made_still : (members : MemberList) (node next last final : Option (NodeView K)) (counts : PutCounts) (told : Option Making) (w : NodeView K) → IsSome node → PutsAll accepts events node next counts
         → MakesOf accepts time next last told → SettlesOf accepts last final → final ≡ Some w → IsMadeWithOf members node → IsMadeWith members w
     made_still members node next last final counts told w there all makes settles_it here with =
         let v = some_value node there in
@@ -240,7 +240,7 @@ module _ {K : Type 0} (accepts : K → Accepts) where
         same ∙ with v.0 v.1 ∙ ap (λ (s : Start K). start_of members s.own s.keys) (sym same)
 
     -- what came of all of it
-    pub kept_is : (members : MemberList) (node next last settled_node : Option (NodeView K)) (v w : NodeView K) (kept : Kept) → node ≡ Some v → settled_node ≡ Some w → kept.opened ≡ length (node_rows v)
+    pub kept_is : (members : MemberList) (node next last settled_node : Option (NodeView K)) (v w : NodeView K) (kept : KeepReport) → node ≡ Some v → settled_node ≡ Some w → kept.opened ≡ length (node_rows v)
         → PutsAll accepts events node next kept.counts → MakesOf accepts time next last kept.made → SettlesOf accepts last settled_node → IsMadeWithOf members node
         → kept.outcome ≡ kept_outcome members w → KeptOf accepts members events time node settled_node kept
     kept_is members node next last settled_node v w kept there here opened all makes settles_it with outcome x is =

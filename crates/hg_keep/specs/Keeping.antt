@@ -18,28 +18,28 @@ use Rattle.hg_outcome.specs.declared.outcome.Outcome.{Outcome}
 use Rattle.hg_outcome.specs.declared.outcome.Printed.TheVariants as printed
 use Rattle.hg_outcome.specs.Ledger.{block_of}
 use Rattle.hg_play.specs.Sites.{IsMadeWith}
-use Rattle.hg_keep.specs.declared.kept.Counts.{Counts}
-use Rattle.hg_keep.specs.declared.kept.Kept.{Kept}
+use Rattle.hg_keep.specs.declared.kept.PutCounts.{PutCounts}
+use Rattle.hg_keep.specs.declared.kept.KeepReport.{KeepReport}
 use Rattle.hg_keep.specs.declared.kept.Making.{Making}
 use Rattle.hg_keep.specs.declared.kept.Making.TheVariants as making
 
 -- ---- putting events
 
-abbrev pub no_counts : Counts
+abbrev pub no_counts : PutCounts
 no_counts = record { accepted = 0; known = 0; refused = 0 }
 
 -- the counts with one answer more
-abbrev pub counted : Counts → PutAnswer → Counts
+abbrev pub counted : PutCounts → PutAnswer → PutCounts
 counted c (Accepted place) = record { accepted = c.accepted + 1; known = c.known; refused = c.refused }
 counted c (Known place) = record { accepted = c.accepted; known = c.known + 1; refused = c.refused }
 counted c (Refused fault) = record { accepted = c.accepted; known = c.known; refused = c.refused + 1 }
 
 -- a node and the counts once one event more was put
-abbrev pub put_one : {K : Type 0} → (K → Accepts) → NodeView K × Counts → List ℕ → NodeView K × Counts
+abbrev pub put_one : {K : Type 0} → (K → Accepts) → NodeView K × PutCounts → List ℕ → NodeView K × PutCounts
 put_one accepts so_far bytes = (after_put accepts so_far.0 bytes, counted so_far.1 (put_answer accepts so_far.0 bytes))
 
 -- a node once these were put to it, one after the other, and how many of them were accepted, known and refused
-abbrev pub puts : {K : Type 0} → (K → Accepts) → NodeView K → List (List ℕ) → NodeView K × Counts
+abbrev pub puts : {K : Type 0} → (K → Accepts) → NodeView K → List (List ℕ) → NodeView K × PutCounts
 puts accepts v events = fold (put_one accepts) (v, no_counts) events
 
 -- a node once some first ones of these were put to it
@@ -47,7 +47,7 @@ abbrev pub IsPutSome : {K : Type 0} → (K → Accepts) → List (List ℕ) → 
 IsPutSome accepts events v w = (n : ℕ) × (w ≡ (puts accepts v (take n events)).0)
 
 -- so it is of the node that was there, once all were put
-abbrev pub PutsAll : {K : Type 0} → (K → Accepts) → List (List ℕ) → Option (NodeView K) → Option (NodeView K) → Counts → Type 0
+abbrev pub PutsAll : {K : Type 0} → (K → Accepts) → List (List ℕ) → Option (NodeView K) → Option (NodeView K) → PutCounts → Type 0
 PutsAll accepts events old new counts =
     ForSome old (λ v. (new ≡ Some (puts accepts v events).0) × (counts ≡ (puts accepts v events).1))
 
@@ -104,7 +104,7 @@ abbrev pub shown : {K : Type 0} → MemberList → NodeView K → Outcome
 shown members v = record { names = names_of members; printed = printed.Block (block_of members v.start.own (node_rows v)) ∷ [] }
 
 -- what came of the work on a node, and the node then
-pub record IsKept {K : Type 0} (accepts : K → Accepts) (members : MemberList) (events : List (List ℕ)) (time : Option ℕ) (v : NodeView K) (kept : Kept) (w : NodeView K) : Type 0 where
+pub record IsKept {K : Type 0} (accepts : K → Accepts) (members : MemberList) (events : List (List ℕ)) (time : Option ℕ) (v : NodeView K) (kept : KeepReport) (w : NodeView K) : Type 0 where
   pub opened : kept.opened ≡ length (node_rows v)
   pub counts : kept.counts ≡ (puts accepts v events).1
   pub made : NodeView K
@@ -120,7 +120,7 @@ IsOnTheWay {K} accepts events time v w =
 
 -- so it is of the node that was there
 abbrev pub KeptOf : {K : Type 0} → (K → Accepts) → MemberList → List (List ℕ) → Option ℕ
-    → Option (NodeView K) → Option (NodeView K) → Kept → Type 0
+    → Option (NodeView K) → Option (NodeView K) → KeepReport → Type 0
 KeptOf {K} accepts members events time old new kept =
     ForSome old (λ v. (w : NodeView K) × (new ≡ Some w) × IsKept accepts members events time v kept w)
 

@@ -11,7 +11,7 @@ use Rattle.hg_journal.specs.Writing.{LeavesOnly}
 use Rattle.hg_journal.specs.declared.errors.OpenError.{OpenError}
 use Rattle.hg_journal.specs.declared.errors.OpenError.TheVariants.{Disk, Memory, Foreign, Broken}
 use Rattle.hg_keep.specs.Keeping.{IsKept}
-use Rattle.hg_keep.specs.declared.kept.Kept.{Kept}
+use Rattle.hg_keep.specs.declared.kept.KeepReport.{KeepReport}
 
 -- the journal of a node of which this is so
 abbrev pub KeepsSome : {K : Type 0} → (K → Accepts) → Start K → (NodeView K → Type 0) → List ℕ → Type 0
@@ -59,6 +59,6 @@ abbrev pub SparesOthers : {K : Type 0} → (K → Accepts) → Start K → FileV
 SparesOthers accepts start old new = ForSome old.reads (λ file. journal accepts start file ≡ None → Stays old new)
 
 -- what came of the work is that of the node with which the file before begins, and the file after is the journal of the node then
-abbrev pub KeepsTask : {K : Type 0} → (K → Accepts) → MemberList → Start K → List (List ℕ) → Option ℕ → FileView → FileView → Kept → Type 0
+abbrev pub KeepsTask : {K : Type 0} → (K → Accepts) → MemberList → Start K → List (List ℕ) → Option ℕ → FileView → FileView → KeepReport → Type 0
 KeepsTask {K} accepts members start events time old new kept =
     (v w : NodeView K) × Begins accepts start old v × IsKept accepts members events time v kept w × Stores accepts start new w

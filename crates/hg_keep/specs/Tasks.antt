@@ -10,7 +10,7 @@ use Rattle.hg_journal.specs.declared.errors.OpenError.{OpenError}
 use Rattle.hg_keep.specs.Keeping.{IsOnTheWay, KeptOf}
 use Rattle.hg_keep.specs.Stops.{KeepsTask, SyncsWayOrFails}
 use Rattle.hg_keep.specs.declared.keeping.Task.{Task}
-use Rattle.hg_keep.specs.declared.kept.Kept.{Kept}
+use Rattle.hg_keep.specs.declared.kept.KeepReport.{KeepReport}
 
 -- what the node begins with
 abbrev pub start_for : {K : Type 0} → MemberList → Task → K → Start K
@@ -21,11 +21,11 @@ abbrev pub IsOnWayOf : {K : Type 0} → (K → Accepts) → Task → NodeView K 
 IsOnWayOf accepts task = IsOnTheWay accepts task.events.now task.time
 
 -- what came of it, and the node then
-abbrev pub IsDone : {K : Type 0} → (K → Accepts) → MemberList → Task → Option (NodeView K) → Option (NodeView K) → Kept → Type 0
+abbrev pub IsDone : {K : Type 0} → (K → Accepts) → MemberList → Task → Option (NodeView K) → Option (NodeView K) → KeepReport → Type 0
 IsDone accepts members task old new kept = KeptOf accepts members task.events.now task.time old new kept
 
 -- .. told of the file with its journal
-abbrev pub DoesTask : {K : Type 0} → (K → Accepts) → MemberList → Task → K → FileView → FileView → Kept → Type 0
+abbrev pub DoesTask : {K : Type 0} → (K → Accepts) → MemberList → Task → K → FileView → FileView → KeepReport → Type 0
 DoesTask accepts members task keys old new kept =
     KeepsTask accepts members (start_for members task keys) task.events.now task.time old new kept
 

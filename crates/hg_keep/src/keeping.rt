@@ -6,7 +6,7 @@ ghost use Rattle.hg_keep.specs.Stops.{SparesOthers, StaysIfRefused, StopsLeaveOf
 ghost use Rattle.hg_keep.specs.Stores.{open_error_of};
 ghost use Rattle.hg_keep.specs.Tasks.{DoesTask, FileIsRefused, IsDone, IsOnWayOf, SyncsTask, start_for};
 
-use crate::kept::Kept;
+use crate::kept::KeepReport;
 use crate::making::make_at;
 use crate::putting::put_all;
 use crate::settling::settle;
@@ -38,7 +38,7 @@ fn work<V: Signer + Drop, D: Disk>(
     disk: &mut D,
     members: &Members,
     task: &Task<'_>,
-) -> Result<Kept, StoreError>
+) -> Result<KeepReport, StoreError>
     requires there { IsSome stored.old.node }
     requires made { IsMadeWithOf members.now stored.old.node }
     requires started { D.At disk.old stored.old.name }
@@ -56,7 +56,7 @@ fn work<V: Signer + Drop, D: Disk>(
     let made = make_at(alloc, stored, disk, task.time)?;
     settle(stored, disk)?;
     let outcome = block_of(alloc, members, stored.node().unwrap())?;
-    Ok(Kept {
+    Ok(KeepReport {
         opened,
         counts,
         made,
@@ -83,7 +83,7 @@ pub fn keep<V: Signer + Drop, D: Disk>(
     members: &Members,
     keys: V,
     task: &Task<'_>,
-) -> Result<Kept, OpenError>
+) -> Result<KeepReport, OpenError>
     requires { task.now.own < length members.now.entries }
     // What came of it is that of the node of the file's journal, and the journal is then the node's after it.
     ensures kept { IfOk result (DoesTask V.accepts members.now task.now keys (D.file disk.old) (D.file disk.new)) }

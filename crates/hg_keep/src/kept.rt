@@ -4,7 +4,7 @@ use hg_outcome::Outcome;
 
 /// How many events were accepted, were known, and were refused.
 #[derive(Clone, Copy, Debug, PartialEq, Eq)]
-pub struct Counts {
+pub struct PutCounts {
     pub accepted: u64,
     pub known: u64,
     pub refused: u64,
@@ -23,10 +23,10 @@ pub enum Making {
 
 /// What came of the work on a node.
 #[derive(Debug, Drop)]
-pub struct Kept {
+pub struct KeepReport {
     /// How many rows the node had when it was opened.
     pub opened: u64,
-    pub counts: Counts,
+    pub counts: PutCounts,
     /// Of an event that was to be made, if one was.
     pub made: Option<Making>,
     /// The node's block.

@@ -23,7 +23,7 @@ mod settling;
 
 pub use events::{EventFault, read_events};
 pub use keeping::{Task, keep, open_error_of};
-pub use kept::{Counts, Kept, Making};
+pub use kept::{KeepReport, Making, PutCounts};
 pub use making::make_next;
 pub use printing::write_kept;
 pub use putting::put_all;

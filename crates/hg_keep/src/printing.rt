@@ -2,7 +2,7 @@ ghost use Rattle.std.specs.Prelude.{◌++◌};
 ghost use Rattle.hg_io.specs.Printing.{Prints, PutsOn};
 ghost use Rattle.hg_keep.specs.Text.{counts_line, kept_text, made_line, making_line, opened_line};
 
-use crate::kept::{Counts, Kept, Making};
+use crate::kept::{KeepReport, Making, PutCounts};
 use hg_io::{Failed, Page, Sink};
 use hg_life::SyncMade;
 use hg_pieces::{Piece, sync_made_phrase, write_pieces};
@@ -24,7 +24,7 @@ fn write_opened<K: Sink>(page: &mut Page, sink: &mut K, rows: u64) -> Result<(),
 }
 
 /// The line of the events that were put.
-fn write_counts<K: Sink>(page: &mut Page, sink: &mut K, counts: Counts) -> Result<(), Failed>
+fn write_counts<K: Sink>(page: &mut Page, sink: &mut K, counts: PutCounts) -> Result<(), Failed>
     ensures { PutsOn K.Sink sink.old sink.new page.old page.new (counts_line counts) result }
 {
     write_pieces(
@@ -88,7 +88,7 @@ fn write_made<K: Sink>(page: &mut Page, sink: &mut K, made: &Option<Making>) -> 
 }
 
 /// All of it.
-fn write_text<K: Sink>(page: &mut Page, sink: &mut K, kept: &Kept) -> Result<(), Failed>
+fn write_text<K: Sink>(page: &mut Page, sink: &mut K, kept: &KeepReport) -> Result<(), Failed>
     ensures { PutsOn K.Sink sink.old sink.new page.old page.new (kept_text kept.now) result }
 {
     write_opened(page, sink, kept.opened)?;
@@ -102,7 +102,7 @@ fn write_text<K: Sink>(page: &mut Page, sink: &mut K, kept: &Kept) -> Result<(),
 /// was made, if one was to be, and the node's block. It takes no memory.
 /// `Failed` comes with the first fault of the sink, which has then taken a front of the text, and not all of it.
 #[tactic(auto, using(hg_io::proofs::PrintLaws::stopped_part))]
-pub fn write_kept<K: Sink>(kept: &Kept, sink: &mut K) -> Result<(), Failed>
+pub fn write_kept<K: Sink>(kept: &KeepReport, sink: &mut K) -> Result<(), Failed>
     ensures { Prints K.Sink sink.old sink.new (kept_text kept.now) result }
 {
     let mut page = Page::new();

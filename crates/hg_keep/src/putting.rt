@@ -4,14 +4,14 @@ ghost use Rattle.hg_journal.specs.Stored.{StoresNode};
 ghost use Rattle.hg_keep.specs.Keeping.{IsPutSome, PutsAll, counted};
 ghost use Rattle.hg_keep.specs.Stops.{StopsLeaveOf};
 
-use crate::kept::Counts;
+use crate::kept::PutCounts;
 use hg_io::Disk;
 use hg_journal::{StoreError, Stored};
 use hg_life::PutAnswer;
 use hg_model::Bytes;
 use hg_sign::Signer;
 
-impl Counts {
+impl PutCounts {
     /// Counts one answer more.
     fn count(&mut self, answer: PutAnswer)
         requires { self.old.accepted + (self.old.known + self.old.refused) < 2 ^ 63 }
@@ -31,7 +31,7 @@ pub fn put_all<V: Signer + Drop, D: Disk>(
     stored: &mut Stored<V>,
     disk: &mut D,
     events: &[Bytes],
-) -> Result<Counts, StoreError>
+) -> Result<PutCounts, StoreError>
     requires there { IsSome stored.old.node }
     requires started { D.At disk.old stored.old.name }
     requires stored { StoresNode V.accepts (D.file disk.old) stored.old }
@@ -45,7 +45,7 @@ pub fn put_all<V: Signer + Drop, D: Disk>(
     ensures never { IsErrOf result StoreError.Closed → ⊥ }
     ensures counts { (other : List ℕ) → D.faults disk.old other ≤ D.faults disk.new other }
 {
-    let mut counts = Counts {
+    let mut counts = PutCounts {
         accepted: 0,
         known: 0,
         refused: 0,

@@ -18,7 +18,7 @@ use Rattle.hg_journal.specs.declared.errors.OpenError.TheVariants as open_error
 use Rattle.hg_keep.specs.Keeping.{IsOnTheWay}
 use Rattle.hg_keep.specs.Stops.{KeepsTask, StaysIfRefused, SyncsWayOrFails}
 use Rattle.hg_keep.specs.Text.{kept_text}
-use Rattle.hg_keep.specs.declared.kept.Kept.{Kept}
+use Rattle.hg_keep.specs.declared.kept.KeepReport.{KeepReport}
 use Rattle.hg_top.specs.declared.status.JournalFault.{JournalFault}
 use Rattle.hg_top.specs.declared.status.JournalFault.TheVariants.{Foreign, Broken}
 use Rattle.hg_top.specs.declared.status.Status.{Status}
@@ -83,7 +83,7 @@ stopped k d before after m n r open_error.Foreign is same cause wrong refused = 
 stopped k d before after m n r (open_error.Broken at) is same cause wrong refused = (same, refused, wrong)
 
 -- and where its text was written
-pub told : {S E : Type 0} (K : sink.Ghosts S) (out written : S) (k : KeepWork) (d : DiskCourse) (kept : Kept) (r : Result ⊤ E) →
+pub told : {S E : Type 0} (K : sink.Ghosts S) (out written : S) (k : KeepWork) (d : DiskCourse) (kept : KeepReport) (r : Result ⊤ E) →
     KeepsTask accepts_by k.members (start_for k) k.events k.time d.before d.after kept → Prints K out written (kept_text kept) r →
     KeepEnds k d (K.written out) (K.written written) (K.faults out) (K.faults written) (status_of r)
 told K out written k d kept (Ok x) task prints = (kept_text kept, (kept, task, refl), prints.0)
@@ -101,7 +101,7 @@ pub stopped_synced : {T : Type 0} (k : KeepWork) (d : DiskCourse) (r : Result T 
 stopped_synced k d r s is (inl syncs) = inl syncs
 stopped_synced k d r s is (inr early) = synced_at k d s (early_by r s is early.0) early.1
 
-pub told_synced : (k : KeepWork) (d : DiskCourse) (r : Result Kept OpenError) (kept : Kept) (status : Status) → r ≡ Ok kept →
+pub told_synced : (k : KeepWork) (d : DiskCourse) (r : Result KeepReport OpenError) (kept : KeepReport) (status : Status) → r ≡ Ok kept →
     SyncsWayOrFails accepts_by (start_for k) (IsOnTheWay accepts_by k.events k.time) d.before d.after r → KeepSyncs k d status
 told_synced k d r kept status is (inl syncs) = inl syncs
 told_synced k d r kept status is (inr early) = absurd (let no = sym is ∙ early.0 in grind arith)

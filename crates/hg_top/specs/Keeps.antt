@@ -15,7 +15,7 @@ use Rattle.hg_keep.specs.Keeping.{IsOnTheWay}
 use Rattle.hg_keep.specs.Stops.{KeepsTask, SparesOthers, SyncsOnTheWay}
 use Rattle.hg_keep.specs.Text.{kept_text}
 use Rattle.hg_keep.specs.declared.keeping.Task.{Task}
-use Rattle.hg_keep.specs.declared.kept.Kept.{Kept}
+use Rattle.hg_keep.specs.declared.kept.KeepReport.{KeepReport}
 use Rattle.hg_top.specs.declared.status.JournalFault.{JournalFault}
 use Rattle.hg_top.specs.declared.status.JournalFault.TheVariants.{Foreign, Broken}
 use Rattle.hg_top.specs.declared.status.Status.{Status}
@@ -37,7 +37,7 @@ work_on members task =
 -- and a stop leaves it so
 abbrev pub IsKeptText : KeepWork → DiskCourse → List ℕ → Type 0
 IsKeptText k d text =
-    (kept : Kept)
+    (kept : KeepReport)
     × KeepsTask accepts_by k.members (start_for k) k.events k.time d.before d.after kept
     × (text ≡ kept_text kept)
 

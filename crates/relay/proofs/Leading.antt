@@ -6,7 +6,7 @@ use Rattle.hg_life.specs.NodeView.{NodeView, Start}
 use Rattle.hg_life.specs.Signing.{Accepts}
 use Rattle.hg_keep.specs.Keeping.{IsMadeSome, IsSettledSome, PutsAll, SettlesOf, TurnOf, puts, settled, told_of}
 use Rattle.hg_keep.specs.Stops.{StopsLeave, StopsLeaveOf}
-use Rattle.hg_keep.specs.declared.kept.Counts.{Counts}
+use Rattle.hg_keep.specs.declared.kept.PutCounts.{PutCounts}
 use Rattle.hg_io.specs.Bytes.{IsReadOn}
 use Rattle.hg_keep.proofs.StopLaws.{leaves_on, leaves_wider, some_is, some_value, told_still}
 use Rattle.hg_keep.proofs.WayLaws.{makes_start, puts_start}
@@ -90,7 +90,7 @@ module _ {K : Type 0} (accepts : K → Accepts) where
   take_all [] = refl
   take_all (x ∷ xs) = ap (λ (ys : List (List ℕ)). x ∷ ys) (take_all xs)
 
-  pub relays_put : (events : List (List ℕ)) (node next : Option (NodeView K)) (counts : Counts) → PutsAll accepts events node next counts → RelaysOf accepts node next
+  pub relays_put : (events : List (List ℕ)) (node next : Option (NodeView K)) (counts : PutCounts) → PutsAll accepts events node next counts → RelaysOf accepts node next
   relays_put events node next counts all v is = (
     (puts accepts v events).0,
     (all v is).0,
@@ -106,7 +106,7 @@ module _ {K : Type 0} (accepts : K → Accepts) where
   pub relays_settled : (node next : Option (NodeView K)) → SettlesOf accepts node next → RelaysOf accepts node next
   relays_settled node next done v is = (settled v, (done v is).0, one_step v (settled v) (Settles (inr refl)))
 
-  pub exchanges_of : (time : ℕ) (before after : Option (List ℕ)) (said : Message) (events : List (List ℕ)) (node next last : Option (NodeView K)) (counts : Counts) (a : Option MakeAnswer)
+  pub exchanges_of : (time : ℕ) (before after : Option (List ℕ)) (said : Message) (events : List (List ℕ)) (node next last : Option (NodeView K)) (counts : PutCounts) (a : Option MakeAnswer)
       → HearsRows before after said → events ≡ rows_in said → PutsAll accepts events node next counts → TurnOf accepts time next last a → ExchangesOf accepts time before after node last
   exchanges_of time before after said events node next last counts a heard same all turn v is =
       let put = subst (λ (es : List (List ℕ)). next ≡ Some (puts accepts v es).0) same (all v is).0 in
