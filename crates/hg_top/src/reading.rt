@@ -51,10 +51,7 @@ pub fn members_from<F: Shelf>(alloc: Global, shelf: &mut F, name: &str) -> Resul
     ensures err { IfErr result (StopsIn F.Shelf shelf.old shelf.new (members_work name.now (λ members. nothing_more))) }
     ensures starts { StartsOne F.Shelf shelf.old shelf.new }
 {
-    let bytes = match bytes_from(alloc, shelf, File::Members, name) {
-        Ok(bytes) => bytes,
-        Err(status) => return Err(status),
-    };
+    let bytes = bytes_from(alloc, shelf, File::Members, name)?;
     match read_members(alloc, bytes.as_slice()) {
         Err(Memory) => Err(Status::Memory),
         Ok(Err(fault)) => Err(Status::Members(Refusal::Fault(fault))),
@@ -76,10 +73,7 @@ pub(crate) fn lines_from<F: Shelf>(
         (StopsIn F.Shelf shelf.old shelf.new (lines_work name.now members.now workers (λ lines. nothing_more))) }
     ensures starts { StartsOne F.Shelf shelf.old shelf.new }
 {
-    let bytes = match bytes_from(alloc, shelf, File::Script, name) {
-        Ok(bytes) => bytes,
-        Err(status) => return Err(status),
-    };
+    let bytes = bytes_from(alloc, shelf, File::Script, name)?;
     match read_script(alloc, bytes.as_slice(), members, workers) {
         Err(Memory) => Err(Status::Memory),
         Ok(Err(fault)) => Err(Status::Script(Refusal::Fault(fault))),
@@ -97,10 +91,7 @@ pub(crate) fn events_from<F: Shelf>(
     ensures err { IfErr result (StopsIn F.Shelf shelf.old shelf.new (events_work name.now (λ events. nothing_more))) }
     ensures starts { StartsOne F.Shelf shelf.old shelf.new }
 {
-    let bytes = match bytes_from(alloc, shelf, File::Events, name) {
-        Ok(bytes) => bytes,
-        Err(status) => return Err(status),
-    };
+    let bytes = bytes_from(alloc, shelf, File::Events, name)?;
     match read_events(alloc, bytes.as_slice()) {
         Err(Memory) => Err(Status::Memory),
         Ok(Err(fault)) => Err(Status::Events(Refusal::Fault(fault))),
@@ -122,10 +113,7 @@ pub(crate) fn proof_from<F: Shelf>(
         (StopsIn F.Shelf shelf.old shelf.new (shown_work name.now members.now (λ shown. nothing_more))) }
     ensures starts { StartsOne F.Shelf shelf.old shelf.new }
 {
-    let bytes = match bytes_from(alloc, shelf, File::Proof, name) {
-        Ok(bytes) => bytes,
-        Err(status) => return Err(status),
-    };
+    let bytes = bytes_from(alloc, shelf, File::Proof, name)?;
     match read_certificate(alloc, members, bytes.as_slice()) {
         Err(Memory) => Err(Status::Memory),
         Ok(Err(why)) => Err(Status::Proof(Refusal::Fault(why))),
@@ -145,10 +133,7 @@ pub(crate) fn message_from<F: Shelf>(
     ensures err { IfErr result (StopsIn F.Shelf shelf.old shelf.new (message_work want name.now (λ message. nothing_more))) }
     ensures starts { StartsOne F.Shelf shelf.old shelf.new }
 {
-    let bytes = match bytes_from(alloc, shelf, File::Message, name) {
-        Ok(bytes) => bytes,
-        Err(status) => return Err(status),
-    };
+    let bytes = bytes_from(alloc, shelf, File::Message, name)?;
     match read_message(alloc, want, bytes.as_slice()) {
         Err(Memory) => Err(Status::Memory),
         Ok(Err(fault)) => Err(Status::Wire(Refusal::Fault(fault))),

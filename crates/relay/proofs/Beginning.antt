@@ -32,10 +32,6 @@ use Rattle.relay.proofs.Leading.{relayed_start, still}
 use Rattle.relay.proofs.Passing.{rose_on}
 
 -- what a `?` hands on
-pub errs : {T : Type 0} (r : Result T Status) (s : Status) (P : Status → Type 0) → IsErrAnd r (λ x. x ≡ s) → P s → IfErr r P
-errs (Ok x) s P is p = absurd is
-errs (Err e) s P is p = subst P (sym is) p
-
 err_is : {T : Type 0} (r : Result T Status) (s : Status) → IsErrAnd r (λ x. x ≡ s) → r ≡ Err s
 err_is (Ok x) s is = absurd is
 err_is {T} (Err e) s is = ap (λ (x : Status). (let r : Result T Status = Err x in r)) is

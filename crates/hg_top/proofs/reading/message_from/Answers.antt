@@ -1,11 +1,15 @@
 use Rattle.hg_exchange.specs.Messages.{message_of}
 use Rattle.hg_top.specs.declared.status.File.TheVariants as file
-use Rattle.hg_top.specs.Commands.{bad_message}
+use Rattle.hg_top.specs.Commands.{bad_message, message_work}
+use Rattle.hg_top.specs.Ends.{StopsIn}
 use Rattle.hg_top.specs.Work.{nothing_more, unless_faulty}
+use Rattle.hg_keep.proofs.StopLaws.{errs}
 use Rattle.hg_top.proofs.WorkLaws.{reads_none}
 use Rattle.hg_top.proofs.reading.message_from.Goals as goal
 
-pub returns-in-Err-clause-err : goal.returns-in-Err-clause-err
-returns-in-Err-clause-err g c =
-    reads_none g.F.Shelf c.args.shelf.now c.bytes_from.new.shelf file.Message c.args.name.now
-    (λ bytes. unless_faulty bad_message (message_of c.args.want bytes) (λ message. nothing_more)) c.in-Err.status c.in-Err.ensures.err
+pub returns-in_err-bytes-clause-err : goal.returns-in_err-bytes-clause-err
+returns-in_err-bytes-clause-err g c =
+    let status = c.in_err-bytes.field-0.0 in
+    errs c.from_residual.result status (StopsIn g.F.Shelf c.args.shelf.now c.bytes_from.new.shelf (message_work c.args.want c.args.name.now (λ message. nothing_more))) c.from_residual.ensures.1
+    (reads_none g.F.Shelf c.args.shelf.now c.bytes_from.new.shelf file.Message c.args.name.now
+    (λ bytes. unless_faulty bad_message (message_of c.args.want bytes) (λ message. nothing_more)) status c.in_err-bytes.ensures.err)

@@ -1,5 +1,5 @@
 use Rattle.std.proofs.Common.{rules, inl, inr, refl, sym, ◌∙◌, ap, subst, ℕ, List, Bool, is_some}
-use Rattle.hg_keep.proofs.StopLaws.{some_is}
+use Rattle.hg_keep.proofs.StopLaws.{errs, some_is}
 use Rattle.hg_life.specs.NodeView.{NodeView, start_of}
 use Rattle.hg_life.specs.Signing.{accepts_by}
 use Rattle.hg_top.specs.declared.status.Status.TheVariants.{Memory}
@@ -7,7 +7,7 @@ use Rattle.hg_world.specs.World.{Secrets}
 use Rattle.relay.specs.Moments.{NoMemory, moment}
 use Rattle.relay.specs.Relaying.{Ended, IsHalted, RelaysStored, TellsKept, outside, unopened}
 use Rattle.relay.specs.Top.{RelayEnds}
-use Rattle.relay.proofs.Beginning.{errs, made_with, relays_start}
+use Rattle.relay.proofs.Beginning.{made_with, relays_start}
 use Rattle.relay.proofs.top.relay.Goals as goal
 
 pub returns-in_err-members-clause-ends : goal.returns-in_err-members-clause-ends

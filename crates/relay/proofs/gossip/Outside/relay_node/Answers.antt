@@ -1,8 +1,9 @@
+use Rattle.hg_keep.proofs.StopLaws.{errs}
 use Rattle.hg_life.specs.NodeView.{start_of}
 use Rattle.hg_top.specs.Keeps.{open_status}
 use Rattle.relay.specs.Moments.{moment}
 use Rattle.relay.specs.Relaying.{Ended, IsHalted, outside, unopened}
-use Rattle.relay.proofs.Beginning.{errs, gossip_halts, gossip_syncs, open_halts, open_syncs, relays_stored}
+use Rattle.relay.proofs.Beginning.{gossip_halts, gossip_syncs, open_halts, open_syncs, relays_stored}
 use Rattle.relay.proofs.gossip.Outside.relay_node.Goals as goal
 
 pub returns-in_err-stored-clause-synced : goal.returns-in_err-stored-clause-synced
