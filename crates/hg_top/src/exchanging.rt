@@ -6,8 +6,7 @@ ghost use Rattle.hg_top.specs.Course.{course, no_disk};
 ghost use Rattle.hg_top.specs.Ends.{Ends};
 ghost use Rattle.hg_top.specs.Writing.{WroteOn};
 
-use crate::keeping::own_in;
-use crate::reading::{lines_from, members_from, message_from};
+use crate::reading::{lines_from, members_from, message_from, own_in};
 use crate::status::{Status, delivered, status_of};
 use hg_exchange::{ask, serve, take, write_took};
 use hg_io::{Shelf, Sink};

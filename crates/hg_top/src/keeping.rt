@@ -1,14 +1,13 @@
-ghost use Rattle.std.specs.Prelude.{◌≡◌, ◌<◌, Some, IfSome, length};
-ghost use Rattle.hg_top.specs.Commands.{files_of, keep_work, own_in, own_work};
+ghost use Rattle.std.specs.Prelude.{◌≡◌, ◌<◌, Some, length};
+ghost use Rattle.hg_top.specs.Commands.{files_of, keep_work, own_work};
 ghost use Rattle.hg_top.specs.Course.{course, disk_course};
 ghost use Rattle.hg_top.specs.Ends.{Ends};
-ghost use Rattle.hg_top.specs.Keeps.{KeptOn, open_status, work_on};
+ghost use Rattle.hg_top.specs.Keeps.{KeptOn, work_on};
 
-use crate::reading::{events_from, members_from};
-use crate::status::{JournalFault, Status, status_of};
+use crate::reading::{events_from, members_from, own_in};
+use crate::status::{Status, open_status, status_of};
 use hg_io::{Disk, Shelf, Sink};
-use hg_journal::{OpenError, StoreError};
-use hg_keep::{Task, open_error_of, write_kept};
+use hg_keep::{Task, write_kept};
 use hg_life::Members;
 use hg_model::{Member, Memory};
 use hg_sign::MacTable;
@@ -27,57 +26,6 @@ pub(crate) struct KeepRequest<'a> {
     pub(crate) disk: &'a str,
     /// The time of the event that the node makes, if it is to make one.
     pub(crate) time: Option<u64>,
-}
-
-/// The member of this name, if it has a node.
-pub fn own_in(members: &Members, name: &str) -> Option<Member>
-    ensures value { result ≡ own_in members.now name.now }
-    ensures inside { IfSome result (λ own. own < length members.now.entries) }
-{
-    match members.place_of(name.as_bytes()) {
-        Some(own) if members.has_node(own) => Some(own),
-        _ => None,
-    }
-}
-
-/// What a call comes to by why a journal was not opened.
-fn open_status(error: OpenError) -> Status
-    ensures { result ≡ open_status error }
-{
-    match error {
-        OpenError::Disk => Status::Disk,
-        OpenError::Memory => Status::Memory,
-        OpenError::Foreign => Status::Journal(JournalFault::Foreign),
-        OpenError::Broken(at) => Status::Journal(JournalFault::Broken(at)),
-    }
-}
-
-impl From<Memory> for Status {
-    ghost use Rattle.hg_top.specs.declared.status.Status.TheVariants as variants;
-
-    ghost from_gives = { λ _ status. status ≡ variants.Memory };
-
-    fn from(_: Memory) -> Status {
-        Status::Memory
-    }
-}
-
-impl From<OpenError> for Status {
-    ghost from_gives = { λ error status. status ≡ open_status error };
-
-    fn from(error: OpenError) -> Status {
-        open_status(error)
-    }
-}
-
-impl From<StoreError> for Status {
-    ghost use Rattle.hg_keep.specs.Stores.{open_error_of};
-
-    ghost from_gives = { λ error status. status ≡ open_status (open_error_of error) };
-
-    fn from(error: StoreError) -> Status {
-        open_status(open_error_of(error))
-    }
 }
 
 /// What a task on the node of one of these members comes to.

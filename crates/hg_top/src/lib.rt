@@ -25,8 +25,7 @@ mod status;
 mod storming;
 mod top;
 
-pub use keeping::own_in;
 pub use printing::{report_status, without_words};
-pub use reading::members_from;
+pub use reading::{members_from, own_in};
 pub use status::{File, JournalFault, NoWords, Refusal, Status, status_of};
 pub use top::hashgraph;

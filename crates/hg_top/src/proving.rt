@@ -4,9 +4,8 @@ ghost use Rattle.hg_top.specs.Course.{course, no_disk};
 ghost use Rattle.hg_top.specs.Ends.{Ends};
 
 use crate::exchanging::NodeRequest;
-use crate::keeping::own_in;
 use crate::printing::print_text;
-use crate::reading::{lines_from, members_from, proof_from};
+use crate::reading::{lines_from, members_from, own_in, proof_from};
 use crate::status::{Status, status_of};
 use hg_certify::{prove_order, write_shown};
 use hg_io::{Shelf, Sink};

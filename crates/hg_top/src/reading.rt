@@ -1,11 +1,11 @@
-ghost use Rattle.std.specs.Prelude.{◌≤◌, ℕ, List, All, IfOk, IfErr};
+ghost use Rattle.std.specs.Prelude.{◌≡◌, ◌<◌, ◌≤◌, ℕ, List, All, IfErr, IfOk, IfSome, length};
 ghost use Rattle.hg_certify.specs.Showing.{IsSafeBeside, ShowsTo, judged_by};
 ghost use Rattle.hg_exchange.specs.Messages.{message_of};
 ghost use Rattle.hg_proof.specs.Certificate.{certificate_bytes};
 ghost use Rattle.hg_keep.specs.Events.{events_of};
 ghost use Rattle.hg_members.specs.MemberFile.{members_of};
 ghost use Rattle.hg_script.specs.Lawful.{IsLine};
-ghost use Rattle.hg_top.specs.Commands.{events_work, lines_for, lines_work, members_work, message_work, shown_work};
+ghost use Rattle.hg_top.specs.Commands.{events_work, lines_for, lines_work, members_work, message_work, own_in, shown_work};
 ghost use Rattle.hg_top.specs.Course.{HasWithin, StartsOne};
 ghost use Rattle.hg_top.specs.Ends.{IsTaken, StopsIn};
 ghost use Rattle.hg_top.specs.Work.{limit_of, nothing_more};
@@ -20,7 +20,7 @@ use hg_io::{FileAnswer, Shelf, read_file};
 use hg_keep::read_events;
 use hg_life::Members;
 use hg_members::read_members;
-use hg_model::{Bytes, Items, Memory};
+use hg_model::{Bytes, Items, Member, Memory};
 use hg_reading::read_script;
 use hg_script::Line;
 use hg_wire::{Message, Want};
@@ -56,6 +56,17 @@ pub fn members_from<F: Shelf>(alloc: Global, shelf: &mut F, name: &str) -> Resul
         Err(Memory) => Err(Status::Memory),
         Ok(Err(fault)) => Err(Status::Members(Refusal::Fault(fault))),
         Ok(Ok(members)) => Ok(members),
+    }
+}
+
+/// The member of this name, if it has a node.
+pub fn own_in(members: &Members, name: &str) -> Option<Member>
+    ensures value { result ≡ own_in members.now name.now }
+    ensures inside { IfSome result (λ own. own < length members.now.entries) }
+{
+    match members.place_of(name.as_bytes()) {
+        Some(own) if members.has_node(own) => Some(own),
+        _ => None,
     }
 }
 

@@ -1,4 +1,5 @@
 ghost use Rattle.std.specs.Prelude.{◌≡◌};
+ghost use Rattle.hg_top.specs.Keeps.{open_status};
 ghost use Rattle.hg_top.specs.Printing.{status_code};
 ghost use Rattle.hg_top.specs.Work.{limit_of, too_long};
 ghost use Rattle.hg_top.specs.Writing as writing;
@@ -6,8 +7,10 @@ ghost use Rattle.hg_top.specs.Writing as writing;
 use hg_certify::Why;
 use hg_exchange::MessageFault;
 use hg_io::Failed;
-use hg_keep::EventFault;
+use hg_journal::{OpenError, StoreError};
+use hg_keep::{EventFault, open_error_of};
 use hg_members::MemberFault;
+use hg_model::Memory;
 use hg_script::ScriptFault;
 use hg_wire::Delivery;
 
@@ -146,5 +149,45 @@ pub fn status_of(written: Result<(), Failed>) -> Status
     match written {
         Ok(()) => Status::Done,
         Err(Failed) => Status::WriteFault,
+    }
+}
+
+/// What a call comes to by why a journal was not opened.
+pub(crate) fn open_status(error: OpenError) -> Status
+    ensures { result ≡ open_status error }
+{
+    match error {
+        OpenError::Disk => Status::Disk,
+        OpenError::Memory => Status::Memory,
+        OpenError::Foreign => Status::Journal(JournalFault::Foreign),
+        OpenError::Broken(at) => Status::Journal(JournalFault::Broken(at)),
+    }
+}
+
+impl From<Memory> for Status {
+    ghost use Rattle.hg_top.specs.declared.status.Status.TheVariants as variants;
+
+    ghost from_gives = { λ _ status. status ≡ variants.Memory };
+
+    fn from(_: Memory) -> Status {
+        Status::Memory
+    }
+}
+
+impl From<OpenError> for Status {
+    ghost from_gives = { λ error status. status ≡ open_status error };
+
+    fn from(error: OpenError) -> Status {
+        open_status(error)
+    }
+}
+
+impl From<StoreError> for Status {
+    ghost use Rattle.hg_keep.specs.Stores.{open_error_of};
+
+    ghost from_gives = { λ error status. status ≡ open_status (open_error_of error) };
+
+    fn from(error: StoreError) -> Status {
+        open_status(open_error_of(error))
     }
 }
