@@ -1,4 +1,5 @@
-//! The program in one call: words, files, nodes, report; and a node that is kept on a disk.
+//! The program in one call: words, files, nodes, and then a report, a certificate, what one shows, the blocks after a storm, or
+//! a message of an exchange; and a node that is kept on a disk.
 //! `main` uses `hashgraph`, whose clauses say what it writes for which files, and the cause of each status.
 //! What the script does is `hg_play`'s; what is written `report_text`, `summary_text` and `status_line` tell.
 //! A command is a work, a value of `specs/Work.antt`: it reads files and then writes a text, works on a node, or stops.

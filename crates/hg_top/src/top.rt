@@ -102,23 +102,11 @@ fn make<R: Threads + Wait + Sync, K: Sink, G: Gate + Sync>(
 }
 
 /// Runs the program `hashgraph` over the files of a shelf and a disk. `words` has the program's name first, and then one
-/// of nine commands. `run --members FILE --script FILE [--workers K]`: each member that has a node gossips as the
-/// script says; then the nodes' ledgers are written to `out`. `make --members N --lines L --seed S [--workers K]`: so
-/// many members and lines are made from the seed and played, and a summary of each node is written to `out`; no file is
-/// read. `keep --members FILE --events FILE --own NAME --disk FILE [--time T]`: the node of the member NAME is opened
-/// from its journal on the disk, takes the events of the file, makes the event that comes next, if there is a time, and
-/// publishes what its graph decides; then what came of it is written to `out`, with the node's ledger. `prove --members
-/// FILE --script FILE --own NAME`: the script is played, and the certificate of the order of that member's node is written
-/// to `out`, without any text. `check --members FILE --proof FILE`: what the certificate shows to the members is written to
-/// `out`. `storm --members FILE --turns T --seed S [--room R]`: each member's node takes so many turns in a thread of
-/// its own, with mailboxes of so much room; then all nodes gossip, and the first line of each node's ledger is written
-/// to `out`. `ask`, `serve` and `take`, each with `--members FILE --script FILE --own NAME`: the script is played, and
-/// then that member's node asks a peer, by a message on `out`; answers the message of `--have FILE` by one on `out`; or
-/// takes the message of `--rows FILE`, of which `out` gets how many events were taken and refused, with the node's
-/// ledger. What is wrong is written to `err`, in one line. With workers the fame of witnesses is decided by so many
-/// threads beside the one that plays the lines; what is written does not change with their number, and what is said of
-/// the safety of the run is said of it without the marks that workers give. They pass the points of `gate`. All that
-/// memory is taken for is done before the first byte is written to `out`.
+/// of nine commands, which `docs/SCRIPT.md` lists with their options: `run`, `make`, `keep`, `prove`, `check`, `storm`,
+/// `ask`, `serve` and `take`. What each comes to is written to `out`, and what is wrong to `err`, in one line. With
+/// workers the fame of witnesses is decided by so many threads beside the one that plays the lines; what is written does
+/// not change with their number, and what is said of the safety of the run is said of it without the marks that workers
+/// give. They pass the points of `gate`. All that memory is taken for is done before the first byte is written to `out`.
 pub fn hashgraph<R: Threads + Wait + Sync, F: Shelf, D: Disk, K: Sink, E: Sink, G: Gate + Sync>(
     rt: &R,
     alloc: Global,
