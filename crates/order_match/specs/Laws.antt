@@ -1,5 +1,5 @@
 -- What holds of every book, as public functions state it
-use Rattle.std.specs.Prelude.{ℕ, ◌+◌, ◌≡◌, ◌<◌, ◌^◌, ◌⊎◌, List, ◌++◌, get_or, length, Result, Ok, Err}
+use Rattle.std.specs.Prelude.{ℕ, ◌+◌, ◌≡◌, ◌<◌, ◌^◌, List, ◌++◌, get_or, length, Result, Ok, Err}
 use Rattle.std.specs.List.{sum_by}
 use Rattle.order_match.specs.declared.request.Side.{Side}
 use Rattle.order_match.specs.declared.request.Side.TheVariants.{Buy, Sell}
@@ -14,10 +14,6 @@ use Rattle.order_match.specs.Books.{BookView, Event, SideView, book_of, with_eve
 -- the first book is an earlier state of the second
 abbrev pub IsEarlier : BookView → BookView → Type 0
 IsEarlier a b = (events : List Event) × (b ≡ with_events a events)
-
--- of the two books one is an earlier state of the other
-abbrev pub IsOneEarlier : BookView → BookView → Type 0
-IsOneEarlier a b = IsEarlier a b ⊎ IsEarlier b a
 
 -- the book of an order that has gone on is that of its first events, with the rest
 abbrev pub BooksGoOn : Type 0
