@@ -15,10 +15,9 @@ ghost use Rattle.hg_world.specs.World.{IsMemberOf};
 ghost use Rattle.register.specs.Replicas.{AreOneRegister};
 
 mod replica;
-mod trouble;
 
 use crate::replica::register_at;
-use crate::trouble::Trouble;
+use hg_check::Trouble;
 use hg_life::{MemberEntry, Members};
 use hg_model::{Bytes, Member, Memory};
 use hg_world::{World, steps_keep_sites};
