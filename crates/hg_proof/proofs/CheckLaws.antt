@@ -1,8 +1,9 @@
 -- What a check comes to, by what its steps came to
-use Rattle.std.proofs.Common.{◌≡◌, ℕ, ◌<◌, ◌≤◌, List, [], length, Option, Some, None, Result, Ok, Err, sym, refl, ap, ◌∙◌, subst, arith}
+use Rattle.std.proofs.Common.{◌≡◌, ℕ, ◌<◌, ◌≤◌, List, [], ◌∷◌, length, is_some, if◌then◌else◌, Option, Some, None, Result, Ok, Err, sym, refl, ap, ◌∙◌, subst, arith}
+use Rattle.std.specs.Option.{option_or}
 use Rattle.std.specs.Result.{IsErrAnd}
 use Rattle.std.specs.declared.sync.Arc.{Arc}
-use Rattle.std.proofs.lemmas.List.{length-map}
+use Rattle.std.proofs.lemmas.List.{append-nil, length-map}
 use Rattle.hg_model.specs.declared.row.Row.{Row}
 use Rattle.hg_model.specs.declared.row.Placed.{Placed}
 use Rattle.hg_model.specs.declared.stop.Stop.{Stop}
@@ -14,19 +15,21 @@ use Rattle.hg_model.specs.Stakes.{Stakes, total}
 use Rattle.hg_life.specs.Results.{Gives, ◌>>=◌}
 use Rattle.hg_life.specs.Signing.{Accepts}
 use Rattle.hg_event.proofs.Reading.{AreBytes}
+use Rattle.hg_graph.specs.Held.{graph_with}
 use Rattle.hg_graph.specs.RowsWithRoom.{rows_of}
 use Rattle.hg_proof.specs.declared.why.Why.{Why}
 use Rattle.hg_proof.specs.declared.why.Why.TheVariants as reason
 use Rattle.hg_proof.specs.declared.shown.Checked.{Checked}
 use Rattle.hg_proof.specs.declared.shown.Checked.TheVariants.{Yes, No}
-use Rattle.hg_proof.specs.Answers.{Comes, IfYes, graph_and, order_in, told}
+use Rattle.hg_proof.specs.Answers.{Comes, IfYes, Leaves, graph_and, graph_passed, order_in, told}
 use Rattle.hg_proof.specs.Certificate.{Certificate, most_rows}
-use Rattle.hg_proof.specs.Judging.{compared, difference_from, judged, ordered_rows, rows_why, unless_at, unless_why}
+use Rattle.hg_proof.specs.Judging.{compared, difference_from, judged, next_why, ordered_rows, rows_in, rows_passed, rows_read, rows_why, unless_at, unless_why}
 use Rattle.hg_proof.specs.Reading.{form_of}
 use Rattle.hg_proof.specs.Shows.{AreSpelled, Shows}
 use Rattle.hg_proof.proofs.ComingLaws.{rows_pass}
+use Rattle.hg_proof.proofs.FillLaws.{leaves_again, leaves_short}
 use Rattle.hg_proof.proofs.FormLaws.{form_spelled}
-use Rattle.hg_proof.proofs.JudgeLaws.{accepted_shown, no_rows}
+use Rattle.hg_proof.proofs.JudgeLaws.{accepted_rows, accepted_shown, no_rows}
 use Rattle.hg_proof.proofs.PartLaws.{stopped}
 
 -- want of memory says nothing
@@ -68,6 +71,49 @@ module _ (accepts : Accepts) (n : Stakes) (c : ℕ) (rows : List Row) where
   unfolding ordered_rows
   filled_ordered g order silent is ordered =
       ap (λ (o : Option Why). unless_why o (order_of n c rows)) silent ∙ ap (λ (ps : List Placed). Ok ps) (sym (ordered ∙ ap (λ (h : Graph). order_in h) is))
+
+-- ---- what is left of the graph
+
+-- what was read is what the bytes hold
+pub rows_held : (bytes : List ℕ) (shown : Certificate) (rows : List Row) → form_of bytes ≡ Ok shown → rows ≡ shown.rows → rows ≡ rows_in bytes
+rows_held bytes shown rows form same = same ∙ sym (ap rows_read form)
+
+-- nothing came of bytes of another form
+pub leaves_unread : {A : Type 0} (accepts : Accepts) (old : Graph) (bytes : List ℕ) → old.rows ≡ [] → (stop : Stop Why) → Gives (λ (x : Certificate). x) (Err stop) (form_of bytes) →
+    (result : Result A (Stop Why)) → IsErrAnd result (λ e. e ≡ stop) → Leaves accepts old (rows_in bytes) result old
+unfolding rows_passed
+leaves_unread accepts old bytes none Memory gives result is =
+    leaves_short accepts old (rows_in bytes) old (0, ap (graph_of old.members old.coin) (sym (append-nil old.rows))) result is
+leaves_unread {A} accepts old bytes none (Fault why) gives result is =
+    let unread : rows_in bytes ≡ [] = ap rows_read gives in
+    let same : old ≡ graph_passed accepts old (rows_in bytes) =
+    ap (graph_of old.members old.coin) (sym (append-nil old.rows)) ∙ ap (λ (rows : List Row). graph_passed accepts old rows) (sym unread) in
+    leaves_again accepts old (rows_in bytes) old A A (Fault why) same result is
+
+none_both : (first other : Option Why) → option_or first other ≡ None → (first ≡ None) × (other ≡ None)
+none_both None other none = (refl, none)
+none_both (Some why) other none = absurd cc
+
+-- all rows come where nothing speaks against them
+all_passed : (accepts : Accepts) (g : Graph) (rows : List Row) → rows_why accepts g rows ≡ None → rows_passed accepts g rows ≡ rows
+unfolding rows_why rows_passed
+all_passed accepts g [] none = refl
+all_passed accepts g (row ∷ rows) none =
+    let both = none_both (next_why accepts g row) (rows_why accepts (graph_with g row) rows) none in
+    ap (λ (o : Option Why). if is_some o then [] else row ∷ rows_passed accepts (graph_with g row) rows) both.0
+    ∙ ap (λ (passed : List Row). row ∷ passed) (all_passed accepts (graph_with g row) rows both.1)
+
+-- the rows of what is shown are those that came
+pub full_rows : (accepts : Accepts) (old : Graph) (bytes : List ℕ) (checked : Checked) (new : Graph) → old.rows ≡ [] → told checked ≡ judged accepts old.members old.coin bytes →
+    new ≡ graph_passed accepts old (rows_in bytes) → IfYes checked (λ shown. new ≡ graph_and old shown.rows)
+full_rows accepts old bytes (No why) new none is passed = tt
+full_rows accepts old bytes (Yes shown) new none is passed =
+    let read = accepted_rows accepts old.members old.coin bytes shown (sym is) in
+    let start : graph_of old.members old.coin [] ≡ old = ap (graph_of old.members old.coin) (sym none) in
+    let silent : rows_why accepts old shown.rows ≡ None = subst (λ (g : Graph). rows_why accepts g shown.rows ≡ None) start read.1 in
+    passed
+    ∙ ap (graph_and old)
+    (ap (λ (r : Result Certificate Why). rows_passed accepts old (rows_read r)) read.0 ∙ all_passed accepts old shown.rows silent)
 
 -- ---- the certificate
 

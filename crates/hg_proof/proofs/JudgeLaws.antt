@@ -133,6 +133,13 @@ accepted_shown accepts n c bytes shown fit stake e =
       whole = same_orders 0 shown.order (order_of n c shown.rows) done.same;
     }
 
+-- no rule spoke against its rows
+pub accepted_rows : (accepts : Accepts) (n : Stakes) (c : ℕ) (bytes : List ℕ) (shown : Certificate) → judged accepts n c bytes ≡ Ok shown → (form_of bytes ≡ Ok shown) × (rows_why accepts (graph_of n c []) shown.rows ≡ None)
+unfolding judged
+accepted_rows accepts n c bytes shown e =
+    let done = accepted_form accepts n c bytes (form_of bytes) shown refl e in
+    (done.read, done.silent)
+
 pub shown_accepted : ShownIsAccepted
 unfolding judged ordered_rows
 shown_accepted accepts n c bytes shown shows =

@@ -1,5 +1,5 @@
 -- The words in which clauses speak of what a check answers, and of a graph that is filled with the rows of a certificate
-use Rattle.std.specs.Prelude.{◌≡◌, ℕ, List, ◌++◌, Option, Some, None, Result, Ok, Err, IfOk, ⊤}
+use Rattle.std.specs.Prelude.{◌≡◌, ℕ, List, ◌++◌, take, Option, Some, None, Result, Ok, Err, IfOk, ⊤}
 use Rattle.hg_model.specs.declared.row.Row.{Row}
 use Rattle.hg_model.specs.declared.stop.Stop.{Stop}
 use Rattle.hg_model.specs.declared.stop.Stop.TheVariants.{Memory, Fault}
@@ -12,7 +12,7 @@ use Rattle.hg_proof.specs.declared.why.Why.{Why}
 use Rattle.hg_graph.specs.Held.{graph_with}
 use Rattle.hg_life.specs.Signing.{Accepts}
 use Rattle.hg_proof.specs.Certificate.{Certificate}
-use Rattle.hg_proof.specs.Judging.{judged, next_why, ordered_rows, rows_why}
+use Rattle.hg_proof.specs.Judging.{judged, next_why, ordered_rows, rows_passed, rows_why}
 use Rattle.hg_proof.specs.Shows.{Shows}
 
 -- what is shown, or the reason why nothing is
@@ -32,6 +32,13 @@ order_in g = order_of g.members g.coin g.rows
 -- the graph with more rows
 abbrev pub graph_and : Graph → List Row → Graph
 graph_and g rows = graph_of g.members g.coin (g.rows ++ rows)
+
+-- the graph with those of these rows that come before the first that something speaks against; with a front of those
+abbrev pub graph_passed : Accepts → Graph → List Row → Graph
+graph_passed accepts g rows = graph_and g (rows_passed accepts g rows)
+
+abbrev pub HasFront : Accepts → Graph → List Row → Graph → Type 0
+HasFront accepts old rows new = (n : ℕ) × (new ≡ graph_and old (take n (rows_passed accepts old rows)))
 
 -- such an answer is told
 abbrev pub Tells : {E : Type 0} → Result Certificate Why → Result Checked E → Type 0
@@ -64,3 +71,10 @@ ComesNext accepts old row result new = Comes (next_why accepts old row) (graph_w
 
 abbrev pub ComeAll : {A : Type 0} → Accepts → Graph → List Row → Result A (Stop Why) → Graph → Type 0
 ComeAll accepts old rows result new = Comes (rows_why accepts old rows) (graph_and old rows) result new
+
+-- what is left of the graph to which these rows were to come: it has all before the first that something speaks against,
+-- or, where memory ran out, a front of those
+abbrev pub Leaves : {A : Type 0} → Accepts → Graph → List Row → Result A (Stop Why) → Graph → Type 0
+Leaves accepts old rows (Ok done) new = new ≡ graph_passed accepts old rows
+Leaves accepts old rows (Err Memory) new = HasFront accepts old rows new
+Leaves accepts old rows (Err (Fault told)) new = new ≡ graph_passed accepts old rows

@@ -1,5 +1,5 @@
 -- What a checker answers to the bytes of a certificate: what they hold, or the first reason against it
-use Rattle.std.specs.Prelude.{ℕ, suc, Bool, ◌&&◌, ◌==◌, List, [], ◌∷◌, length, Option, Some, None, option_map, Result, Ok, Err, if◌then◌else◌}
+use Rattle.std.specs.Prelude.{ℕ, suc, Bool, ◌&&◌, ◌==◌, List, [], ◌∷◌, length, Option, Some, None, is_some, option_map, Result, Ok, Err, if◌then◌else◌}
 use Rattle.std.specs.Option.{option_or}
 use Rattle.hg_model.specs.declared.row.Row.{Row}
 use Rattle.hg_model.specs.declared.row.Placed.{Placed}
@@ -33,6 +33,12 @@ unfoldable pub rows_why : Accepts → Graph → List Row → Option Why
 rows_why accepts g [] = None
 rows_why accepts g (row ∷ rows) = option_or (next_why accepts g row) (rows_why accepts (graph_with g row) rows)
 
+-- these rows up to the first that something speaks against, where they come one after the other
+unfoldable pub rows_passed : Accepts → Graph → List Row → List Row
+rows_passed accepts g [] = []
+rows_passed accepts g (row ∷ rows) =
+    if is_some (next_why accepts g row) then [] else row ∷ rows_passed accepts (graph_with g row) rows
+
 -- two entries are the same
 abbrev pub is_same : Placed → Placed → Bool
 is_same p q = p.place == q.place && p.received == q.received && p.time == q.time
@@ -62,6 +68,15 @@ unless_at (Some i) shown = Err (reason.Order i)
 -- the same, compared with this order
 abbrev pub compared : Certificate → List Placed → Result Certificate Why
 compared shown order = unless_at (difference_from 0 shown.order order) shown
+
+-- the rows of the certificate that was read; none where its form was broken
+abbrev pub rows_read : Result Certificate Why → List Row
+rows_read (Ok shown) = shown.rows
+rows_read (Err why) = []
+
+-- the rows that the bytes hold
+abbrev pub rows_in : List ℕ → List Row
+rows_in bytes = rows_read (form_of bytes)
 
 -- what the bytes show, or the first reason against them: their form comes before all else, and the rows before the order
 unfoldable pub judged : Accepts → Stakes → ℕ → List ℕ → Result Certificate Why

@@ -1,8 +1,9 @@
-ghost use Rattle.std.specs.Prelude.{◌≡◌, ◌≤◌, [], IfOk, length};
+ghost use Rattle.std.specs.Prelude.{◌≡◌, ◌≤◌, [], IfOk, OnOk, length};
 ghost use Rattle.hg_life.specs.Results.{Gives};
 ghost use Rattle.hg_life.specs.Terms.{row_limit};
 ghost use Rattle.hg_graph.specs.RowsWithRoom.{rows_of};
-ghost use Rattle.hg_proof.specs.Answers.{IfYes, ShowsIn, Tells, TellsShown, judged_in, ordered_among};
+ghost use Rattle.hg_proof.specs.Answers.{HasFront, IfYes, Leaves, ShowsIn, Tells, TellsShown, graph_and, graph_passed, judged_in, ordered_among};
+ghost use Rattle.hg_proof.specs.Judging.{rows_in};
 
 use crate::comparing::difference;
 use crate::filling::fill;
@@ -26,7 +27,8 @@ fn ordered<V: Verifier>(
 ) -> Result<Vec<Placed>, Stop<Why>>
     requires empty { graph.old.graph.rows ≡ [] }
     requires few { length events.now ≤ row_limit }
-    ensures { Gives (λ order. order.items) result (ordered_among (V.accepts keys.now) graph.old.graph (rows_of events.now)) }
+    ensures order { Gives (λ v. v.items) result (ordered_among (V.accepts keys.now) graph.old.graph (rows_of events.now)) }
+    ensures left { Leaves (V.accepts keys.now) graph.old.graph (rows_of events.now) result graph.new.graph }
 {
     fill(keys, graph, events)?;
     // That the graph is lawful.
@@ -43,7 +45,8 @@ fn judge<V: Verifier>(
     bytes: &[u8],
 ) -> Result<Shown, Stop<Why>>
     requires { graph.old.graph.rows ≡ [] }
-    ensures { Gives (λ shown. shown) result (judged_in (V.accepts keys.now) graph.old.graph bytes.now) }
+    ensures shown { Gives (λ shown. shown) result (judged_in (V.accepts keys.now) graph.old.graph bytes.now) }
+    ensures left { Leaves (V.accepts keys.now) graph.old.graph (rows_in bytes.now) result graph.new.graph }
 {
     let shown = form_of(alloc, bytes)?;
     let whole = ordered(alloc, keys, graph, shown.events())?;
@@ -61,7 +64,9 @@ fn answered<V: Verifier>(
     bytes: &[u8],
 ) -> Result<Checked, Memory>
     requires { graph.old.graph.rows ≡ [] }
-    ensures { Tells (judged_in (V.accepts keys.now) graph.old.graph bytes.now) result }
+    ensures told { Tells (judged_in (V.accepts keys.now) graph.old.graph bytes.now) result }
+    ensures passed { OnOk result (graph.new.graph ≡ graph_passed (V.accepts keys.now) graph.old.graph (rows_in bytes.now)) }
+    ensures front { HasFront (V.accepts keys.now) graph.old.graph (rows_in bytes.now) graph.new.graph }
 {
     match judge(alloc, keys, graph, bytes) {
         Ok(shown) => Ok(Checked::Yes(shown)),
@@ -89,6 +94,11 @@ pub fn check<V: Verifier>(
     ensures only { TellsShown (V.accepts keys.now) graph.old.graph bytes.now result }
     // What is shown, or which reason speaks first.
     ensures exact { Tells (judged_in (V.accepts keys.now) graph.old.graph bytes.now) result }
+    // What is shown stands in the graph then; after any answer, the rows before the first that something speaks against.
+    ensures all { IfOk result (λ checked. IfYes checked (λ shown. graph.new.graph ≡ graph_and graph.old.graph shown.rows)) }
+    ensures passed { OnOk result (graph.new.graph ≡ graph_passed (V.accepts keys.now) graph.old.graph (rows_in bytes.now)) }
+    // Where memory ran out, a front of those.
+    ensures front { HasFront (V.accepts keys.now) graph.old.graph (rows_in bytes.now) graph.new.graph }
 {
     // That the members have some stake, so that no rows are a graph.
     graph.len();

@@ -1,4 +1,4 @@
-ghost use Rattle.std.specs.Prelude.{◌≡◌, ◌<◌, ◌≤◌, ◌+◌, ◌++◌, ◌∷◌, [], length, IfOk, OnOk};
+ghost use Rattle.std.specs.Prelude.{◌≡◌, ◌<◌, ◌≤◌, ◌+◌, ◌++◌, ◌∷◌, [], length, IfOk, OnErr, OnOk};
 ghost use Rattle.hg_model.specs.Graph.{IsGraph};
 ghost use Rattle.hg_model.specs.Prefix.{graph_of};
 ghost use Rattle.hg_life.specs.Members.{stakes_of};
@@ -6,7 +6,7 @@ ghost use Rattle.hg_life.specs.Terms.{row_limit};
 ghost use Rattle.hg_graph.specs.Held.{graph_with};
 ghost use Rattle.hg_graph.specs.RowsWithRoom.{rows_of};
 ghost use Rattle.hg_arrival.specs.Arrival.{StandsOn};
-ghost use Rattle.hg_proof.specs.Answers.{ComeAll, ComesNext};
+ghost use Rattle.hg_proof.specs.Answers.{ComeAll, ComesNext, Leaves};
 ghost use Rattle.hg_proof.specs.Judging.{why_at};
 
 use crate::why::Why;
@@ -42,7 +42,8 @@ fn push_shared(graph: &mut EventGraph, event: &Arc<Event>, parents: &[usize]) ->
     requires limit { length graph.old.graph.rows < row_limit }
     requires link { StandsOn graph.old.graph.rows event.now.value parents.now }
     requires graph { IsGraph graph.old.graph.members (graph.old.graph.rows ++ event.now.value ∷ []) }
-    ensures { OnOk result (graph.new.graph ≡ graph_with graph.old.graph event.now.value) }
+    ensures ok { OnOk result (graph.new.graph ≡ graph_with graph.old.graph event.now.value) }
+    ensures err { OnErr result (graph.new.graph ≡ graph.old.graph) }
 {
     let event = Arc::clone(event)?;
     graph.reserve()?;
@@ -57,7 +58,8 @@ fn add_next<V: Verifier>(
     event: &Arc<Event>,
 ) -> Result<(), Stop<Why>>
     requires { length graph.old.graph.rows < row_limit }
-    ensures { ComesNext (V.accepts keys.now) graph.old.graph event.now.value result graph.new.graph }
+    ensures comes { ComesNext (V.accepts keys.now) graph.old.graph event.now.value result graph.new.graph }
+    ensures err { OnErr result (graph.new.graph ≡ graph.old.graph) }
 {
     let name = event.row().name;
     let place = graph.len();
@@ -77,7 +79,8 @@ pub(crate) fn fill<V: Verifier>(
     events: &[Arc<Event>],
 ) -> Result<(), Stop<Why>>
     requires { length graph.old.graph.rows + length events.now ≤ row_limit }
-    ensures { ComeAll (V.accepts keys.now) graph.old.graph (rows_of events.now) result graph.new.graph }
+    ensures come { ComeAll (V.accepts keys.now) graph.old.graph (rows_of events.now) result graph.new.graph }
+    ensures left { Leaves (V.accepts keys.now) graph.old.graph (rows_of events.now) result graph.new.graph }
 {
     for event in events {
         add_next(keys, graph, event)?;
