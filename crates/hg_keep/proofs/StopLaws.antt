@@ -33,6 +33,11 @@ pub err_of : {T U E : Type 0} (r : Result T E) (e d : E) → IsErrAnd r (λ x. x
 err_of (Ok x) e d is of = absurd is
 err_of {T} {U} {E} (Err x) e d is of = ap (λ (y : E). (let q : Result T E = Err y in q)) (is ∙ error_is {T = U} e d of)
 
+-- an error that was handed on
+pub same_error : {T U E : Type 0} (r : Result T E) (s : Result U E) (e k : E) → r ≡ Err e → IsErrAnd s (λ x. x ≡ e) → IsErrOf s k → IsErrOf r k
+same_error r (Ok x) e k was is of = absurd is
+same_error {T} {U} {E} r (Err y) e k was is of = was ∙ ap (λ (x : E). (let q : Result T E = Err x in q)) (sym is ∙ error_is {T = U} y k of)
+
 -- what is there was there before it was mapped
 pub some_mapped : {A B : Type 0} (f : A → B) (o : Option A) (p : Option B) → option_map f o ≡ p → IsSome p → IsSome o
 some_mapped f None p is some = rw (← is) at some

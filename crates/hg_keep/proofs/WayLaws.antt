@@ -32,7 +32,7 @@ use Rattle.hg_journal.specs.Stored.{ComesOfMaking, MakesNode, StopsKeepMaking, S
 use Rattle.hg_keep.specs.declared.kept.PutCounts.{PutCounts}
 use Rattle.hg_keep.specs.declared.kept.KeepReport.{KeepReport}
 use Rattle.hg_keep.specs.declared.kept.Making.{Making}
-use Rattle.hg_keep.specs.Keeping.{HasRow, IsMadeSome, IsMadeWithOf, IsOnTheWay, IsPutSome, IsSettledSome, IsTurn, KeptOf, MakesAt, MakesOf, PutsAll, SettlesOf, TurnOf, counted, no_counts, put_one, puts, settled, told_of}
+use Rattle.hg_keep.specs.Keeping.{HasRow, IsMadeSome, IsMadeWithOf, IsOnTheWay, IsPutSome, IsSettledSome, IsTurn, KeptOf, MakesAt, MakesOf, PutsAll, PutsSome, SettlesOf, TurnOf, counted, no_counts, put_one, puts, settled, told_of}
 use Rattle.hg_keep.specs.Stops.{StopsLeave, StopsLeaveOf}
 use Rattle.hg_keep.proofs.StopLaws.{leaves_either, leaves_on, leaves_still, leaves_wider, some_is, some_value, told_still}
 
@@ -71,6 +71,11 @@ module _ {K : Type 0} (accepts : K → Accepts) where
         one.0 ∙ ap (λ (x : NodeView K × PutCounts). Some x.0) (sym last),
         one.1 ∙ ap (λ (c : PutCounts). counted c (put_answer accepts (puts accepts v (take i events)).0 bytes)) here.1 ∙ ap (λ (x : NodeView K × PutCounts). x.1) (sym last),
       )
+
+  -- .. or nothing more
+  pub puts_some : (first : Option (NodeView K)) (events : List (List ℕ)) (i : ℕ) (now next : StoredView K) (counts : PutCounts) → PutsAll accepts (take i events) first now.node counts → next ≡ now
+      → PutsSome accepts events first next.node
+  puts_some first events i now next counts so_far same v is = ((puts accepts v (take i events)).0, ap (λ (s : StoredView K). s.node) same ∙ (so_far v is).0, (i, refl))
 
   pub still_there : (now next : Option (NodeView K)) (bytes : List ℕ) → IsSome now → ForSome now (λ v. next ≡ Some (after_put accepts v bytes)) → IsSome next
   still_there None next bytes there step = absurd cc

@@ -46,7 +46,11 @@ puts accepts v events = fold (put_one accepts) (v, no_counts) events
 abbrev pub IsPutSome : {K : Type 0} → (K → Accepts) → List (List ℕ) → NodeView K → NodeView K → Type 0
 IsPutSome accepts events v w = (n : ℕ) × (w ≡ (puts accepts v (take n events)).0)
 
--- so it is of the node that was there, once all were put
+-- so it is of the node that was there
+abbrev pub PutsSome : {K : Type 0} → (K → Accepts) → List (List ℕ) → Option (NodeView K) → Option (NodeView K) → Type 0
+PutsSome {K} accepts events old new = ForSome old (λ v. (w : NodeView K) × (new ≡ Some w) × IsPutSome accepts events v w)
+
+-- .. once all were put
 abbrev pub PutsAll : {K : Type 0} → (K → Accepts) → List (List ℕ) → Option (NodeView K) → Option (NodeView K) → PutCounts → Type 0
 PutsAll accepts events old new counts =
     ForSome old (λ v. (new ≡ Some (puts accepts v events).0) × (counts ≡ (puts accepts v events).1))

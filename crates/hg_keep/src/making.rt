@@ -1,4 +1,4 @@
-ghost use Rattle.std.specs.Prelude.{◌≡◌, ◌≤◌, ℕ, List, Some, IfOk, IsErrOf, IsSome, OnOk, is_some, length};
+ghost use Rattle.std.specs.Prelude.{◌≡◌, ◌≤◌, ℕ, List, None, Some, IfOk, IsErrOf, IsSome, OnOk, is_some, length};
 ghost use Rattle.std.specs.Option.{option_to_list};
 ghost use Rattle.hex.specs.Hex.{encode_lower};
 ghost use Rattle.hg_model.specs.Links.{most_others};
@@ -55,7 +55,12 @@ pub fn make_next<V: Signer + Drop, D: Disk>(
     requires stored { StoresNode V.accepts (D.file disk.old) stored.old }
     ensures turn { IfOk result (TurnOf V.accepts time stored.old.node stored.new.node) }
     ensures row { IfOk result (λ a. HasRow a stored.new.node) }
-    ensures stored { OnOk result (StoresNode V.accepts (D.file disk.new) stored.new) }
+    ensures memory { IsErrOf result StoreError.Memory → stored.new ≡ stored.old }
+    ensures closes { IsErrOf result StoreError.Disk → stored.new.node ≡ None }
+    // Where no node comes to be another, neither does the end of its journal, nor the disk.
+    ensures idle { stored.new.node ≡ stored.old.node → (stored.new ≡ stored.old) × (disk.new ≡ disk.old) }
+    // A stop leaves the whole journal of the node that is there then.
+    ensures stored { StoresNode V.accepts (D.file disk.new) stored.new }
     ensures stops { StopsLeaveOf V.accepts (IsMadeSome V.accepts (Some time)) stored.old.node (D.file disk.old) (D.file disk.new) }
     ensures shown { is_some (D.file disk.new).reads ≡ is_some (D.file disk.old).reads }
     ensures name { stored.new.name ≡ stored.old.name }

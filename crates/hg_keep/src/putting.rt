@@ -1,7 +1,7 @@
-ghost use Rattle.std.specs.Prelude.{◌≡◌, ◌+◌, ◌<◌, ◌≤◌, ◌^◌, ℕ, List, IfOk, IsErrOf, IsSome, OnOk, is_some};
+ghost use Rattle.std.specs.Prelude.{◌≡◌, ◌+◌, ◌<◌, ◌≤◌, ◌^◌, ℕ, List, None, IfOk, IsErrOf, IsSome, is_some};
 ghost use Rattle.hg_journal.specs.Faults.{IsFaultCounted};
 ghost use Rattle.hg_journal.specs.Stored.{StoresNode};
-ghost use Rattle.hg_keep.specs.Keeping.{IsPutSome, PutsAll, counted};
+ghost use Rattle.hg_keep.specs.Keeping.{IsPutSome, PutsAll, PutsSome, counted};
 ghost use Rattle.hg_keep.specs.Stops.{StopsLeaveOf};
 
 use crate::kept::PutCounts;
@@ -36,7 +36,11 @@ pub fn put_all<V: Signer + Drop, D: Disk>(
     requires started { D.At disk.old stored.old.name }
     requires stored { StoresNode V.accepts (D.file disk.old) stored.old }
     ensures puts { IfOk result (PutsAll V.accepts events.now stored.old.node stored.new.node) }
-    ensures stored { OnOk result (StoresNode V.accepts (D.file disk.new) stored.new) }
+    // Where memory ran out, some first ones were put. Once the disk has failed, no node is there.
+    ensures memory { IsErrOf result StoreError.Memory → PutsSome V.accepts events.now stored.old.node stored.new.node }
+    ensures closes { IsErrOf result StoreError.Disk → stored.new.node ≡ None }
+    // A stop leaves the whole journal of the node that is there then.
+    ensures stored { StoresNode V.accepts (D.file disk.new) stored.new }
     ensures stops { StopsLeaveOf V.accepts (IsPutSome V.accepts events.now) stored.old.node (D.file disk.old) (D.file disk.new) }
     ensures shown { is_some (D.file disk.new).reads ≡ is_some (D.file disk.old).reads }
     ensures name { stored.new.name ≡ stored.old.name }

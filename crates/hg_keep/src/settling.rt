@@ -1,4 +1,4 @@
-ghost use Rattle.std.specs.Prelude.{◌≡◌, ◌≤◌, ℕ, List, IsErrOf, IsSome, OnOk, is_some};
+ghost use Rattle.std.specs.Prelude.{◌≡◌, ◌≤◌, ℕ, List, None, IsErrOf, IsSome, OnOk, is_some};
 ghost use Rattle.hg_journal.specs.Faults.{IsFaultCounted};
 ghost use Rattle.hg_journal.specs.Stored.{StoresNode};
 ghost use Rattle.hg_keep.specs.Keeping.{IsSettledSome, SettlesOf};
@@ -18,7 +18,12 @@ pub fn settle<V: Signer + Drop, D: Disk>(
     requires started { D.At disk.old stored.old.name }
     requires stored { StoresNode V.accepts (D.file disk.old) stored.old }
     ensures settles { OnOk result (SettlesOf V.accepts stored.old.node stored.new.node) }
-    ensures stored { OnOk result (StoresNode V.accepts (D.file disk.new) stored.new) }
+    ensures memory { IsErrOf result StoreError.Memory → stored.new ≡ stored.old }
+    ensures closes { IsErrOf result StoreError.Disk → stored.new.node ≡ None }
+    // Where no node comes to be another, neither does the end of its journal, nor the disk.
+    ensures idle { stored.new.node ≡ stored.old.node → (stored.new ≡ stored.old) × (disk.new ≡ disk.old) }
+    // A stop leaves the whole journal of the node that is there then.
+    ensures stored { StoresNode V.accepts (D.file disk.new) stored.new }
     ensures stops { StopsLeaveOf V.accepts IsSettledSome stored.old.node (D.file disk.old) (D.file disk.new) }
     ensures shown { is_some (D.file disk.new).reads ≡ is_some (D.file disk.old).reads }
     ensures name { stored.new.name ≡ stored.old.name }

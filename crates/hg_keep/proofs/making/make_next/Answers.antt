@@ -1,7 +1,9 @@
 use Rattle.std.proofs.Common.{rules, ◌≡◌, ℕ, List, inl, Some, None, option_map, refl, sym, ◌∙◌, ap, arith}
 use Rattle.std.specs.Option.{option_to_list}
 use Rattle.hg_node.specs.Next.{next_others}
+use Rattle.hg_journal.specs.declared.errors.StoreError.TheVariants as store_error
 use Rattle.hg_keep.specs.Keeping.{IsMadeSome}
+use Rattle.hg_keep.proofs.StopLaws.{same_error}
 use Rattle.hg_keep.proofs.WayLaws.{has_row, stops_making, stops_still, turn_none, turn_some}
 use Rattle.hg_keep.proofs.making.make_next.Goals as goal
 
@@ -40,3 +42,11 @@ returns-clause-stops g c =
     let comes : next_others v ≡ Some c.names_of.result.now = sym c.next_other.ensures ∙ ap (option_map option_to_list) c.in-Some.is ∙ ap (λ (names : List (List ℕ)). Some names) (sym c.names_of.ensures.names) in
     stops_making g.V.Verifier.accepts (g.D.Disk.file c.args.disk.now) (g.D.Disk.file c.make.new.disk) c.args.stored.now c.make.new.self v c.names_of.result.now c.args.time (search rules) comes
     c.make.ensures.stops
+
+pub returns-in_err-answer-clause-memory : goal.returns-in_err-answer-clause-memory
+returns-in_err-answer-clause-memory g c = λ memory.
+    c.make.ensures.memory (same_error c.make.result c.from_residual.result c.in_err-answer.field-0.0 store_error.Memory c.in_err-answer.was c.from_residual.ensures.1 memory)
+
+pub returns-in_err-answer-clause-closes : goal.returns-in_err-answer-clause-closes
+returns-in_err-answer-clause-closes g c = λ failed.
+    (c.make.ensures.closes.0 (same_error c.make.result c.from_residual.result c.in_err-answer.field-0.0 store_error.Disk c.in_err-answer.was c.from_residual.ensures.1 failed)).1

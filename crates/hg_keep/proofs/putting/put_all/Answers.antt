@@ -1,7 +1,9 @@
 use Rattle.std.proofs.Common.{rules, ◌≡◌, ◌<◌, length, refl, ◌∙◌, ap, arith}
 use Rattle.std.specs.Prelude.{get_or}
+use Rattle.hg_journal.specs.declared.errors.StoreError.TheVariants as store_error
 use Rattle.hg_keep.specs.Keeping.{counted}
-use Rattle.hg_keep.proofs.WayLaws.{puts_more, puts_none, still_there, stops_more, stops_none}
+use Rattle.hg_keep.proofs.StopLaws.{same_error}
+use Rattle.hg_keep.proofs.WayLaws.{puts_more, puts_none, puts_some, still_there, stops_more, stops_none}
 use Rattle.hg_keep.proofs.putting.put_all.Goals as goal
 
 pub loop-event-init : goal.loop-event-init
@@ -28,6 +30,13 @@ returns-in_err-answer-clause-stops g c =
     stops_more g.V.Verifier.accepts c.args.stored.now.node c.args.events.now now.event-index bytes now.stored.node now.counts (g.D.Disk.file c.args.disk.now) (g.D.Disk.file now.disk) (g.D.Disk.file c.put.new.disk)
     within at now.invariant.puts now.invariant.shown now.invariant.stops c.put.ensures.stops
 
+pub returns-in_err-answer-clause-memory : goal.returns-in_err-answer-clause-memory
+returns-in_err-answer-clause-memory g c = λ memory.
+    let now = c.loop-event in
+    let is_memory = same_error c.put.result c.from_residual.result c.in_err-answer.field-0.0 store_error.Memory c.in_err-answer.was c.from_residual.ensures.1 memory in
+    puts_some g.V.Verifier.accepts c.args.stored.now.node c.args.events.now now.event-index now.stored c.put.new.self now.counts now.invariant.puts
+    (c.put.ensures.memory is_memory)
+
 pub loop-event-preserved : goal.loop-event-preserved
 loop-event-preserved g c =
     let accepts = g.V.Verifier.accepts in
@@ -48,3 +57,7 @@ loop-event-preserved g c =
       started = c.put.ensures.started;
       counts = search rules;
     }
+
+pub returns-in_err-answer-clause-closes : goal.returns-in_err-answer-clause-closes
+returns-in_err-answer-clause-closes g c = λ failed.
+    (c.put.ensures.closes.0 (same_error c.put.result c.from_residual.result c.in_err-answer.field-0.0 store_error.Disk c.in_err-answer.was c.from_residual.ensures.1 failed)).1
