@@ -1,17 +1,18 @@
 -- Each step of a mailbox's queue keeps its rule, and tells what it tells
-use Rattle.std.proofs.Common.{◌≡◌, ◌≢◌, ℕ, ◌+◌, ◌<◌, ◌≤◌, Bool, true, false, true≢false, ◌||◌, cond, eqb, eq-eqb, ne_eqb, List, [], ◌∷◌, ◌++◌, length, set, refl, sym, ap, ◌∙◌, subst, ⊎_elim, append_assoc, append-nil, arith}
+use Rattle.std.proofs.Common.{◌≡◌, ◌≢◌, ℕ, ◌+◌, ◌<◌, ◌≤◌, Bool, true, false, true≢false, ◌||◌, cond, eqb, eq-eqb, ne_eqb, List, [], ◌∷◌, ◌++◌, length, map, set, inl, inr, refl, sym, ap, ◌∙◌, subst, ⊎_elim, append_assoc, append-nil, arith}
 use Rattle.std.specs.List.{AllByRecursion}
 use mathlib.Core.Option.{some}
 use lib.ListN.{get_elem?}
 use Rattle.std.proofs.lemmas.Bool.{cases_lt}
+use Rattle.std.proofs.lemmas.List.Elements.{filter-append}
 use Rattle.atomic_table.proofs.Lists.{at_set}
 use Rattle.crossbeam_queue.specs.Fifo.{Pushes, Pops, Forks, Merges, Learns}
 use Rattle.hg_mail.specs.declared.message.Message.{Message}
 use Rattle.hg_mail.specs.declared.view.Sender.{Sender}
 use Rattle.hg_mail.specs.declared.view.View.{View}
-use Rattle.hg_mail.specs.Messages.{AreFrom, IsEmptied, IsSender, Puts, Takes, after_hand, after_issue, after_taking, first_view, handed, issued, joined_view, messages_of, sender, sender_view, spent_view}
+use Rattle.hg_mail.specs.Messages.{AreFrom, HasPort, IsAmong, IsEmptied, Puts, Takes, after_hand, after_issue, after_post, after_put, after_taking, first_view, handed, issued, joined_view, messages_of, spent_view}
 use Rattle.hg_mail.specs.Rule.{Delivers, HasSender, HeldAt, IsAt, Knows, Ledger}
-use Rattle.hg_mail.proofs.ListLaws.{Each, all_append, all_map, each_one, each_push, each_set, of_another, of_its_sender}
+use Rattle.hg_mail.proofs.ListLaws.{Each, all_append, all_map, each_one, each_push, each_set, of_another}
 
 pub begins : Delivers [] (first_view ∷ [])
 begins =
@@ -30,6 +31,18 @@ same_sender l k port next ports put s has = record {
   all = has.all ∙ ap (messages_of s.from) (sym put);
 }
 
+-- of a port's senders each has put in what is its own of one message more
+sender_puts : (l : Ledger) (m : Message) (port : ℕ) (ss : List Sender) → AllByRecursion (HasSender l port) ss → AllByRecursion (HasSender (record l { put = l.put ++ m ∷ [] }) port) (map (after_put m) ss)
+sender_puts l m port [] all = tt
+sender_puts l m port (s ∷ ss) all = (
+  record {
+    known = all.0.known;
+    here = all.0.here;
+    all = ap (λ (put : List Message). put ++ messages_of s.from (m ∷ [])) all.0.all ∙ sym (filter-append (λ n. eqb n.from s.from) l.put (m ∷ []));
+  },
+  sender_puts l m port ss all.1,
+)
+
 -- another port's senders have put in nothing
 sender_later : (l : Ledger) (m : Message) (port j : ℕ) → l.port_of m.from ≡ port → j ≢ port → (s : Sender) → HasSender l j s → HasSender (record l { put = l.put ++ m ∷ [] }) j s
 sender_later l m port j own apart s has = record {
@@ -38,27 +51,28 @@ sender_later l m port j own apart s has = record {
   all = has.all ∙ sym (of_another s.from l.put m (λ (is : m.from ≡ s.from). apart (sym has.here ∙ (ap l.port_of (sym is) ∙ own))));
 }
 
-pub puts : (room port : ℕ) (v : View) (m : Message) → IsSender m.from v → Pushes Delivers room port v m (Puts v m)
-puts room port v m s held views short rule at =
+-- a sender that is among those of a port is known, and has that port
+sender_here : (l : Ledger) (port from : ℕ) (ss : List Sender) → IsAmong from ss → AllByRecursion (HasSender l port) ss → (from < l.next) × (l.port_of from ≡ port)
+sender_here l port from [] none all = absurd none
+sender_here l port from (s ∷ ss) (inl is) all = (omega (arith, all.0.known, is), ap l.port_of (sym is) ∙ all.0.here)
+sender_here l port from (s ∷ ss) (inr later) all = sender_here l port from ss later all.1
+
+pub puts : (room port : ℕ) (v : View) (m : Message) → HasPort m.from v → Pushes Delivers room port v m (Puts v m)
+puts room port v m has held views short rule at =
     let old : Ledger = rule.ledger in
     let new : Ledger = record old { put = old.put ++ m ∷ [] } in
-    let w : View = sender_view m.from (s.put ++ m ∷ []) in
     let mine : Knows old port v = rule.each port v at in
-    let has : HasSender old port (sender m.from s.put) = (subst (λ (u : View). AllByRecursion (HasSender old port) u.senders) s.is mine.senders).0 in (
-      w,
+    let own : (m.from < old.next) × (old.port_of m.from ≡ port) = sender_here old port m.from v.senders has mine.senders in (
+      after_post v m,
       record {
         ledger = new;
         all = ap (λ (l : List Message). l ++ m ∷ []) rule.all ∙ append_assoc old.taken held (m ∷ []);
-        fresh = λ from later. of_another from old.put m (λ (is : m.from ≡ from). absurd (omega (arith, has.known, is, later))) ∙ rule.fresh from later;
-        each = each_set (Knows new) views port w
-            (record {
-              takes = λ e. absurd (true≢false (sym e));
-              gives = λ e. absurd (true≢false (sym e));
-              senders = (record { known = has.known; here = has.here; all = ap (λ (l : List Message). l ++ m ∷ []) has.all ∙ sym (of_its_sender m.from old.put m refl) }, tt);
-            })
-            (λ j u apart there. let o = rule.each j u there in record { takes = o.takes; gives = o.gives; senders = all_map (HasSender old j) (HasSender new j) (sender_later old m port j has.here apart) u.senders o.senders });
+        fresh = λ from later. of_another from old.put m (λ (is : m.from ≡ from). absurd (omega (arith, own.0, is, later))) ∙ rule.fresh from later;
+        each = each_set (Knows new) views port (after_post v m)
+            (record { takes = mine.takes; gives = mine.gives; senders = sender_puts old m port v.senders mine.senders })
+            (λ j u apart there. let o = rule.each j u there in record { takes = o.takes; gives = o.gives; senders = all_map (HasSender old j) (HasSender new j) (sender_later old m port j own.1 apart) u.senders o.senders });
       },
-      record { put = s.put; before = s.is; after = refl },
+      refl,
     )
 
 pub takes : (port : ℕ) (v : View) → v.takes ≡ true → Pops Delivers port v (Takes v)

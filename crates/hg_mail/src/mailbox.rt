@@ -1,5 +1,5 @@
 ghost use Rattle.std.specs.Prelude.{◌≡◌, ◌<◌, ◌≤◌, ◌%◌, ◌^◌, true, IfOk, OnErr, OnOk, length, max};
-ghost use Rattle.hg_mail.specs.Messages.{IsEmptied, IsSender};
+ghost use Rattle.hg_mail.specs.Messages.{HasPort, IsEmptied};
 ghost use Rattle.hg_mail.specs.Rule.{HeldAt};
 ghost use Rattle.hg_mail.specs.Count.{all_parts};
 ghost use Rattle.hg_mail.specs.Mailboxes.{IsPortOf, IsOpened, Posts, TakesSome, after_hand, after_issue, after_looking, after_taking, handed, issued, joined, spent};
@@ -157,12 +157,12 @@ impl Mailbox {
         look(&self.counter.shared, seat)
     }
 
-    /// Puts a message in, by the port of its sender. It comes back only where the mailbox held as many messages as it has
-    /// room for at a step of this call, and so many were put in and counted by its end, as the port has seen; the port counts
-    /// how often.
+    /// Puts a message in, by a port that puts in for its sender. It comes back only where the mailbox held as many messages as
+    /// it has room for at a step of this call, and so many were put in and counted by its end, as the port has seen; the port
+    /// counts how often.
     pub fn post<R: Wait>(&self, rt: &R, port: &mut Port, message: Message) -> PostAnswer
         requires of { IsPortOf self.now port.old }
-        requires sender { IsSender message.from port.old.view }
+        requires sender { HasPort message.from port.old.view }
         requires part { 0 < port.old.count.parts }
         ensures { Posts self.now port.old message result port.new }
     {
