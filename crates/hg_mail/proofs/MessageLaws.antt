@@ -1,5 +1,5 @@
 -- Each step of a mailbox's queue keeps its rule, and tells what it tells
-use Rattle.std.proofs.Common.{◌≡◌, ◌≢◌, ℕ, ◌+◌, ◌<◌, ◌≤◌, Bool, true, false, true≢false, ◌||◌, cond, eqb, eq-eqb, ne_eqb, List, [], ◌∷◌, ◌++◌, length, map, set, inl, inr, refl, sym, ap, ◌∙◌, subst, ⊎_elim, append_assoc, append-nil, arith}
+use Rattle.std.proofs.Common.{◌≡◌, ◌≢◌, ℕ, zero, suc, ◌+◌, ◌<◌, ◌≤◌, Bool, true, false, true≢false, ◌||◌, cond, eqb, eq-eqb, ne_eqb, List, [], ◌∷◌, ◌++◌, length, map, set, inl, inr, refl, sym, ap, ◌∙◌, subst, ⊎_elim, append_assoc, append-nil, length-append, arith}
 use Rattle.std.specs.List.{AllByRecursion}
 use mathlib.Core.Option.{some}
 use lib.ListN.{get_elem?}
@@ -10,7 +10,7 @@ use Rattle.crossbeam_queue.specs.Fifo.{Pushes, Pops, Forks, Merges, Learns}
 use Rattle.hg_mail.specs.declared.message.Message.{Message}
 use Rattle.hg_mail.specs.declared.view.Sender.{Sender}
 use Rattle.hg_mail.specs.declared.view.View.{View}
-use Rattle.hg_mail.specs.Messages.{AreFrom, HasPort, IsAmong, IsEmptied, Puts, Takes, after_hand, after_issue, after_post, after_put, after_taking, first_view, handed, issued, joined_view, messages_of, spent_view}
+use Rattle.hg_mail.specs.Messages.{AreFrom, HasPort, IsAmong, IsEmptied, IsWhole, Puts, Takes, after_hand, after_issue, after_post, after_put, after_taking, first_view, handed, issued, joined_view, messages_of, spent_view}
 use Rattle.hg_mail.specs.Rule.{Delivers, HasSender, HeldAt, IsAt, Knows, Ledger}
 use Rattle.hg_mail.proofs.ListLaws.{Each, all_append, all_map, each_one, each_push, each_set, of_another}
 
@@ -309,3 +309,93 @@ module _ (v : View) (may : v.takes ≡ true) (held : HeldAt v 0) where
   -- .. and each of it is of a sender whose port was given out
   pub from_senders : v.gives ≡ true → AreFrom v.next v.taken
   from_senders gives = none_later v.next v.taken (λ from later. ap (messages_of from) (sym all_taken) ∙ held.2.rule.fresh from (omega (arith, later, (old_known.gives gives).1)))
+
+-- ---- a port with all rights knows how many messages the mailbox holds
+
+-- how many messages the first senders have among these
+abbrev pub count_from : ℕ → List Message → ℕ
+count_from zero ms = 0
+count_from (suc n) ms = count_from n ms + length (messages_of n ms)
+
+count_none : (n : ℕ) → count_from n [] ≡ 0
+count_none zero = refl
+count_none (suc n) = omega (arith, count_none n)
+
+head_own : (k : ℕ) (m : Message) (ms : List Message) → m.from ≡ k → length (messages_of k (m ∷ ms)) ≡ length (messages_of k ms) + 1
+head_own k m ms is = ap (λ (b : Bool). length (cond b (m ∷ messages_of k ms) (messages_of k ms))) (eq-eqb m.from k is) ∙ omega arith
+
+head_other : (k : ℕ) (m : Message) (ms : List Message) → m.from ≢ k → length (messages_of k (m ∷ ms)) ≡ length (messages_of k ms)
+head_other k m ms apart = ap (λ (b : Bool). length (cond b (m ∷ messages_of k ms) (messages_of k ms))) (ne_eqb m.from k apart)
+
+count_past : (n : ℕ) (m : Message) (ms : List Message) → n ≤ m.from → count_from n (m ∷ ms) ≡ count_from n ms
+count_past zero m ms past = refl
+count_past (suc n) m ms past =
+    omega (arith, count_past n m ms (omega (arith, past)), head_other n m ms (λ (is : m.from ≡ n). absurd (omega (arith, past, is))))
+
+count_more : (n : ℕ) (m : Message) (ms : List Message) → m.from < n → count_from n (m ∷ ms) ≡ count_from n ms + 1
+count_more zero m ms low = absurd (omega (arith, low))
+count_more (suc n) m ms low = ⊎_elim
+    (λ (lower : m.from < n). omega (arith, count_more n m ms lower, head_other n m ms (λ (is : m.from ≡ n). absurd (omega (arith, lower, is)))))
+    (λ (past : n ≤ m.from). omega (arith, count_past n m ms past, head_own n m ms (omega (arith, past, low)))) (cases_lt m.from n)
+
+pub count_all : (n : ℕ) (ms : List Message) → AreFrom n ms → count_from n ms ≡ length ms
+count_all n [] all = count_none n
+count_all n (m ∷ ms) all = omega (arith, count_more n m ms all.0, count_all n ms all.1)
+
+same_count : (n : ℕ) (ms ns : List Message) → ((from : ℕ) → from < n → messages_of from ms ≡ messages_of from ns) → count_from n ms ≡ count_from n ns
+same_count zero ms ns same = refl
+same_count (suc n) ms ns same = omega (arith, same_count n ms ns (λ from low. same from (omega (arith, low))), ap length (same n (omega arith)))
+
+-- what a sender of a port has put in is the same at each step at which the port knows the same of it
+same_put : (l k : Ledger) (port other from : ℕ) (ss : List Sender) → IsAmong from ss → AllByRecursion (HasSender l port) ss → AllByRecursion (HasSender k other) ss →
+    messages_of from l.put ≡ messages_of from k.put
+same_put l k port other from [] none all more = absurd none
+same_put l k port other from (s ∷ ss) (inl is) all more =
+    subst (λ (n : ℕ). messages_of n l.put ≡ messages_of n k.put) is (sym all.0.all ∙ more.0.all)
+same_put l k port other from (s ∷ ss) (inr later) all more = same_put l k port other from ss later all.1 more.1
+
+module _ (v : View) (left : List Message) (held : ℕ) (whole : IsWhole v) (first : HeldAt v held) (last : HeldAt (after_taking v left) 0) where
+  abbrev before : Ledger
+  before = first.2.rule.ledger
+
+  abbrev then : Ledger
+  then = last.2.rule.ledger
+
+  known_before : Knows before first.2.port v
+  known_before = first.2.rule.each first.2.port v first.2.here
+
+  known_then : Knows then last.2.port (after_taking v left)
+  known_then = last.2.rule.each last.2.port (after_taking v left) last.2.here
+
+  all_before : count_from v.next before.put ≡ length before.put
+  all_before = count_all v.next before.put (none_later v.next before.put (λ from later. first.2.rule.fresh from (omega (arith, later, (known_before.gives whole.gives).1))))
+
+  all_then : count_from v.next then.put ≡ length then.put
+  all_then = count_all v.next then.put (none_later v.next then.put (λ from later. last.2.rule.fresh from (omega (arith, later, (known_then.gives whole.gives).1))))
+
+  same_all : count_from v.next before.put ≡ count_from v.next then.put
+  same_all = same_count v.next before.put then.put (λ from low.
+      same_put before then first.2.port last.2.port from v.senders (whole.senders from low) known_before.senders known_then.senders)
+
+  -- so many are then taken out, until it holds none
+  pub all_held : length left ≡ held
+  all_held =
+      let put_before = ap length first.2.rule.all in
+      let put_then = ap length last.2.rule.all in
+      let taken_before = ap length (known_before.takes whole.takes).1 in
+      let taken_then = ap length (known_then.takes whole.takes).1 in
+      omega (
+        arith,
+        all_before,
+        all_then,
+        same_all,
+        put_before,
+        put_then,
+        taken_before,
+        taken_then,
+        first.1,
+        last.1,
+        length-append before.taken first.0,
+        length-append then.taken last.0,
+        length-append v.taken left,
+      )

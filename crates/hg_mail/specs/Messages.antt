@@ -94,6 +94,12 @@ Takes v message w = w ≡ after_taking v (message ∷ [])
 abbrev pub IsEmptied : View → Type 0
 IsEmptied v = AllByRecursion (λ (s : Sender). s.put ≡ messages_of s.from v.taken) v.senders
 
+-- every right, with those of all senders
+pub record IsWhole (v : View) : Type 0 where
+  pub takes : v.takes ≡ true
+  pub gives : v.gives ≡ true
+  pub senders : (from : ℕ) → from < v.next → HasPort from v
+
 -- some messages were taken out
 pub record TakesSome (v w : View) : Type 0 where
   pub messages : List Message
