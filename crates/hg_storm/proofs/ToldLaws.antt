@@ -48,6 +48,7 @@ use Rattle.hg_storm.proofs.FateLaws.{take_later}
 use Rattle.hg_storm.proofs.MadeLaws.{is_made_in, made_front}
 use Rattle.hg_storm.proofs.ThreadLaws.{AreJoined, IsDone, absorbed_at, done_at, news_count}
 use Rattle.hg_storm.proofs.DueLaws.{due_later, idle_later, then_same}
+use Rattle.hg_storm.proofs.TurnRowLaws.{all_turned}
 
 -- ---- the rows of a node's own member are those that its history made
 
@@ -247,6 +248,7 @@ module _ (plan : Plan) (mails : List MailboxView) (k : ℕ) (p : SharedNode Secr
     turns = record {
       start = sym its_end.start;
       rows = rows_and_idle;
+      made = all_turned p (turns_of plan k) j.desk.seat node from_none its_end done.stands.seat.within done.stands.turned;
       causes = idle_later (node_at p.start j.desk.seat.seen) (node_at p.start node.history) refl its_end.later 0 0 (turns_of plan k) j.desk.log.idle done.stands.idle;
     };
     fates = fates_last Secrets accepts_by p j.desk.seat node j.desk.log.intake.taken.items j.desk.log.intake.refused.items from_none its_end done.stands.fates;

@@ -19,7 +19,7 @@ use Rattle.hg_storm.specs.declared.desk.Job.{Job}
 use Rattle.hg_storm.specs.Sending.{bytes_seen, messages_from}
 use Rattle.hg_storm.specs.Drawing.{HasDrawn, times_drawn}
 use Rattle.hg_storm.specs.Ends.{EndsWithFates}
-use Rattle.hg_storm.specs.Turning.{AreIdle, HadRows, IsCounted, Stands, WasDue, own_rows, rows_by}
+use Rattle.hg_storm.specs.Turning.{AreIdle, AreTurnRows, HadRows, IsCounted, Stands, WasDue, own_rows, rows_by}
 use Rattle.hg_storm.specs.Threads.{Pairs, no_dispatch, place_of, turns_of}
 
 -- what members did, by their numbers: what each put into each one's mailbox, and how often that was full; and what each took
@@ -132,11 +132,12 @@ pub record AreEmptied {Z : Type 0} (tale : Tale) (n : ℕ) (mails : List Mailbox
 
 -- ---- what all members did, by their numbers, and their nodes then
 
--- of one member, whose node is this: its own rows and its turns that made none are together as many as all its turns, and each
--- of the latter has its cause
+-- of one member, whose node is this: its own rows, each of which is a turn's, and its turns that made none are together as many as
+-- all its turns, and each of the latter has its cause
 pub record CountsTurns (plan : Plan) (k : ℕ) (p : SharedNode Secrets) (node : NodeView Secrets) (idle : ℕ) : Type 0 where
   pub start : p.start.start ≡ node.start
   pub rows : rows_by node.start.own (node_rows node) + idle ≡ turns_of plan k
+  pub made : AreTurnRows node (turns_of plan k)
   pub causes : AreIdle p node.history (turns_of plan k) idle
 
 -- so its log tells, and what it took is held or was refused
