@@ -1,17 +1,18 @@
 -- Each step of a mailbox's queue keeps its rule, and tells what it tells
-use Rattle.std.proofs.Common.{◌≡◌, ◌≢◌, ℕ, ◌+◌, ◌<◌, ◌≤◌, Bool, true, false, true≢false, ◌||◌, cond, eqb, eq-eqb, ne_eqb, List, [], ◌∷◌, ◌++◌, length, set, refl, sym, ap, ◌∙◌, subst, ⊎_elim, append_assoc, append-nil, arith}
+use Rattle.std.proofs.Common.{◌≡◌, ◌≢◌, ℕ, zero, suc, ◌+◌, ◌<◌, ◌≤◌, Bool, true, false, true≢false, ◌||◌, cond, eqb, eq-eqb, ne_eqb, List, [], ◌∷◌, ◌++◌, length, map, set, inl, inr, refl, sym, ap, ◌∙◌, subst, ⊎_elim, append_assoc, append-nil, length-append, arith}
 use Rattle.std.specs.List.{AllByRecursion}
 use mathlib.Core.Option.{some}
 use lib.ListN.{get_elem?}
 use Rattle.std.proofs.lemmas.Bool.{cases_lt}
+use Rattle.std.proofs.lemmas.List.Elements.{filter-append}
 use Rattle.atomic_table.proofs.Lists.{at_set}
 use Rattle.crossbeam_queue.specs.Fifo.{Pushes, Pops, Forks, Merges, Learns}
 use Rattle.hg_mail.specs.declared.message.Message.{Message}
 use Rattle.hg_mail.specs.declared.view.Sender.{Sender}
 use Rattle.hg_mail.specs.declared.view.View.{View}
-use Rattle.hg_mail.specs.Messages.{AreFrom, IsEmptied, IsSender, Puts, Takes, after_hand, after_issue, after_taking, first_view, handed, issued, joined_view, messages_of, sender, sender_view, spent_view}
+use Rattle.hg_mail.specs.Messages.{AreFrom, HasPort, IsAmong, IsEmptied, IsWhole, Puts, Takes, after_hand, after_issue, after_post, after_put, after_taking, first_view, handed, issued, joined_view, messages_of, spent_view}
 use Rattle.hg_mail.specs.Rule.{Delivers, HasSender, HeldAt, IsAt, Knows, Ledger}
-use Rattle.hg_mail.proofs.ListLaws.{Each, all_append, all_map, each_one, each_push, each_set, of_another, of_its_sender}
+use Rattle.hg_mail.proofs.ListLaws.{Each, all_append, all_map, each_one, each_push, each_set, of_another}
 
 pub begins : Delivers [] (first_view ∷ [])
 begins =
@@ -30,6 +31,18 @@ same_sender l k port next ports put s has = record {
   all = has.all ∙ ap (messages_of s.from) (sym put);
 }
 
+-- of a port's senders each has put in what is its own of one message more
+sender_puts : (l : Ledger) (m : Message) (port : ℕ) (ss : List Sender) → AllByRecursion (HasSender l port) ss → AllByRecursion (HasSender (record l { put = l.put ++ m ∷ [] }) port) (map (after_put m) ss)
+sender_puts l m port [] all = tt
+sender_puts l m port (s ∷ ss) all = (
+  record {
+    known = all.0.known;
+    here = all.0.here;
+    all = ap (λ (put : List Message). put ++ messages_of s.from (m ∷ [])) all.0.all ∙ sym (filter-append (λ n. eqb n.from s.from) l.put (m ∷ []));
+  },
+  sender_puts l m port ss all.1,
+)
+
 -- another port's senders have put in nothing
 sender_later : (l : Ledger) (m : Message) (port j : ℕ) → l.port_of m.from ≡ port → j ≢ port → (s : Sender) → HasSender l j s → HasSender (record l { put = l.put ++ m ∷ [] }) j s
 sender_later l m port j own apart s has = record {
@@ -38,27 +51,28 @@ sender_later l m port j own apart s has = record {
   all = has.all ∙ sym (of_another s.from l.put m (λ (is : m.from ≡ s.from). apart (sym has.here ∙ (ap l.port_of (sym is) ∙ own))));
 }
 
-pub puts : (room port : ℕ) (v : View) (m : Message) → IsSender m.from v → Pushes Delivers room port v m (Puts v m)
-puts room port v m s held views short rule at =
+-- a sender that is among those of a port is known, and has that port
+sender_here : (l : Ledger) (port from : ℕ) (ss : List Sender) → IsAmong from ss → AllByRecursion (HasSender l port) ss → (from < l.next) × (l.port_of from ≡ port)
+sender_here l port from [] none all = absurd none
+sender_here l port from (s ∷ ss) (inl is) all = (omega (arith, all.0.known, is), ap l.port_of (sym is) ∙ all.0.here)
+sender_here l port from (s ∷ ss) (inr later) all = sender_here l port from ss later all.1
+
+pub puts : (room port : ℕ) (v : View) (m : Message) → HasPort m.from v → Pushes Delivers room port v m (Puts v m)
+puts room port v m has held views short rule at =
     let old : Ledger = rule.ledger in
     let new : Ledger = record old { put = old.put ++ m ∷ [] } in
-    let w : View = sender_view m.from (s.put ++ m ∷ []) in
     let mine : Knows old port v = rule.each port v at in
-    let has : HasSender old port (sender m.from s.put) = (subst (λ (u : View). AllByRecursion (HasSender old port) u.senders) s.is mine.senders).0 in (
-      w,
+    let own : (m.from < old.next) × (old.port_of m.from ≡ port) = sender_here old port m.from v.senders has mine.senders in (
+      after_post v m,
       record {
         ledger = new;
         all = ap (λ (l : List Message). l ++ m ∷ []) rule.all ∙ append_assoc old.taken held (m ∷ []);
-        fresh = λ from later. of_another from old.put m (λ (is : m.from ≡ from). absurd (omega (arith, has.known, is, later))) ∙ rule.fresh from later;
-        each = each_set (Knows new) views port w
-            (record {
-              takes = λ e. absurd (true≢false (sym e));
-              gives = λ e. absurd (true≢false (sym e));
-              senders = (record { known = has.known; here = has.here; all = ap (λ (l : List Message). l ++ m ∷ []) has.all ∙ sym (of_its_sender m.from old.put m refl) }, tt);
-            })
-            (λ j u apart there. let o = rule.each j u there in record { takes = o.takes; gives = o.gives; senders = all_map (HasSender old j) (HasSender new j) (sender_later old m port j has.here apart) u.senders o.senders });
+        fresh = λ from later. of_another from old.put m (λ (is : m.from ≡ from). absurd (omega (arith, own.0, is, later))) ∙ rule.fresh from later;
+        each = each_set (Knows new) views port (after_post v m)
+            (record { takes = mine.takes; gives = mine.gives; senders = sender_puts old m port v.senders mine.senders })
+            (λ j u apart there. let o = rule.each j u there in record { takes = o.takes; gives = o.gives; senders = all_map (HasSender old j) (HasSender new j) (sender_later old m port j own.1 apart) u.senders o.senders });
       },
-      record { put = s.put; before = s.is; after = refl },
+      refl,
     )
 
 pub takes : (port : ℕ) (v : View) → v.takes ≡ true → Pops Delivers port v (Takes v)
@@ -295,3 +309,93 @@ module _ (v : View) (may : v.takes ≡ true) (held : HeldAt v 0) where
   -- .. and each of it is of a sender whose port was given out
   pub from_senders : v.gives ≡ true → AreFrom v.next v.taken
   from_senders gives = none_later v.next v.taken (λ from later. ap (messages_of from) (sym all_taken) ∙ held.2.rule.fresh from (omega (arith, later, (old_known.gives gives).1)))
+
+-- ---- a port with all rights knows how many messages the mailbox holds
+
+-- how many messages the first senders have among these
+abbrev pub count_from : ℕ → List Message → ℕ
+count_from zero ms = 0
+count_from (suc n) ms = count_from n ms + length (messages_of n ms)
+
+count_none : (n : ℕ) → count_from n [] ≡ 0
+count_none zero = refl
+count_none (suc n) = omega (arith, count_none n)
+
+head_own : (k : ℕ) (m : Message) (ms : List Message) → m.from ≡ k → length (messages_of k (m ∷ ms)) ≡ length (messages_of k ms) + 1
+head_own k m ms is = ap (λ (b : Bool). length (cond b (m ∷ messages_of k ms) (messages_of k ms))) (eq-eqb m.from k is) ∙ omega arith
+
+head_other : (k : ℕ) (m : Message) (ms : List Message) → m.from ≢ k → length (messages_of k (m ∷ ms)) ≡ length (messages_of k ms)
+head_other k m ms apart = ap (λ (b : Bool). length (cond b (m ∷ messages_of k ms) (messages_of k ms))) (ne_eqb m.from k apart)
+
+count_past : (n : ℕ) (m : Message) (ms : List Message) → n ≤ m.from → count_from n (m ∷ ms) ≡ count_from n ms
+count_past zero m ms past = refl
+count_past (suc n) m ms past =
+    omega (arith, count_past n m ms (omega (arith, past)), head_other n m ms (λ (is : m.from ≡ n). absurd (omega (arith, past, is))))
+
+count_more : (n : ℕ) (m : Message) (ms : List Message) → m.from < n → count_from n (m ∷ ms) ≡ count_from n ms + 1
+count_more zero m ms low = absurd (omega (arith, low))
+count_more (suc n) m ms low = ⊎_elim
+    (λ (lower : m.from < n). omega (arith, count_more n m ms lower, head_other n m ms (λ (is : m.from ≡ n). absurd (omega (arith, lower, is)))))
+    (λ (past : n ≤ m.from). omega (arith, count_past n m ms past, head_own n m ms (omega (arith, past, low)))) (cases_lt m.from n)
+
+pub count_all : (n : ℕ) (ms : List Message) → AreFrom n ms → count_from n ms ≡ length ms
+count_all n [] all = count_none n
+count_all n (m ∷ ms) all = omega (arith, count_more n m ms all.0, count_all n ms all.1)
+
+same_count : (n : ℕ) (ms ns : List Message) → ((from : ℕ) → from < n → messages_of from ms ≡ messages_of from ns) → count_from n ms ≡ count_from n ns
+same_count zero ms ns same = refl
+same_count (suc n) ms ns same = omega (arith, same_count n ms ns (λ from low. same from (omega (arith, low))), ap length (same n (omega arith)))
+
+-- what a sender of a port has put in is the same at each step at which the port knows the same of it
+same_put : (l k : Ledger) (port other from : ℕ) (ss : List Sender) → IsAmong from ss → AllByRecursion (HasSender l port) ss → AllByRecursion (HasSender k other) ss →
+    messages_of from l.put ≡ messages_of from k.put
+same_put l k port other from [] none all more = absurd none
+same_put l k port other from (s ∷ ss) (inl is) all more =
+    subst (λ (n : ℕ). messages_of n l.put ≡ messages_of n k.put) is (sym all.0.all ∙ more.0.all)
+same_put l k port other from (s ∷ ss) (inr later) all more = same_put l k port other from ss later all.1 more.1
+
+module _ (v : View) (left : List Message) (held : ℕ) (whole : IsWhole v) (first : HeldAt v held) (last : HeldAt (after_taking v left) 0) where
+  abbrev before : Ledger
+  before = first.2.rule.ledger
+
+  abbrev then : Ledger
+  then = last.2.rule.ledger
+
+  known_before : Knows before first.2.port v
+  known_before = first.2.rule.each first.2.port v first.2.here
+
+  known_then : Knows then last.2.port (after_taking v left)
+  known_then = last.2.rule.each last.2.port (after_taking v left) last.2.here
+
+  all_before : count_from v.next before.put ≡ length before.put
+  all_before = count_all v.next before.put (none_later v.next before.put (λ from later. first.2.rule.fresh from (omega (arith, later, (known_before.gives whole.gives).1))))
+
+  all_then : count_from v.next then.put ≡ length then.put
+  all_then = count_all v.next then.put (none_later v.next then.put (λ from later. last.2.rule.fresh from (omega (arith, later, (known_then.gives whole.gives).1))))
+
+  same_all : count_from v.next before.put ≡ count_from v.next then.put
+  same_all = same_count v.next before.put then.put (λ from low.
+      same_put before then first.2.port last.2.port from v.senders (whole.senders from low) known_before.senders known_then.senders)
+
+  -- so many are then taken out, until it holds none
+  pub all_held : length left ≡ held
+  all_held =
+      let put_before = ap length first.2.rule.all in
+      let put_then = ap length last.2.rule.all in
+      let taken_before = ap length (known_before.takes whole.takes).1 in
+      let taken_then = ap length (known_then.takes whole.takes).1 in
+      omega (
+        arith,
+        all_before,
+        all_then,
+        same_all,
+        put_before,
+        put_then,
+        taken_before,
+        taken_then,
+        first.1,
+        last.1,
+        length-append before.taken first.0,
+        length-append then.taken last.0,
+        length-append v.taken left,
+      )

@@ -1,5 +1,5 @@
 -- What a port knows of a mailbox's messages, and how that changes
-use Rattle.std.specs.Prelude.{◌≡◌, ℕ, ◌+◌, ◌<◌, ◌==◌, ◌||◌, true, false, cond, List, [], ◌∷◌, ◌++◌}
+use Rattle.std.specs.Prelude.{◌≡◌, ℕ, ◌+◌, ◌<◌, ◌⊎◌, ◌==◌, ◌||◌, true, false, cond, List, [], ◌∷◌, ◌++◌, map}
 use Rattle.std.specs.List.{AllByRecursion, filter}
 use Rattle.hg_mail.specs.declared.message.Message.{Message}
 use Rattle.hg_mail.specs.declared.view.Sender.{Sender}
@@ -65,11 +65,26 @@ pub record IsSender (from : ℕ) (v : View) : Type 0 where
   pub put : List Message
   pub is : v ≡ sender_view from put
 
--- what one step of a port does: its sender puts a message in
-pub record Puts (v : View) (message : Message) (w : View) : Type 0 where
-  pub put : List Message
-  pub before : v ≡ sender_view message.from put
-  pub after : w ≡ sender_view message.from (put ++ message ∷ [])
+-- the sender is one of these
+abbrev pub IsAmong : ℕ → List Sender → Type 0
+IsAmong from [] = ⊥
+IsAmong from (s ∷ ss) = (s.from ≡ from) ⊎ IsAmong from ss
+
+-- the port puts in for this sender, and may have other rights too
+abbrev pub HasPort : ℕ → View → Type 0
+HasPort from v = IsAmong from v.senders
+
+-- a sender once this message was put in, which may be another's
+abbrev pub after_put : Message → Sender → Sender
+after_put message s = record s { put = s.put ++ messages_of s.from (message ∷ []) }
+
+-- this message was put in too
+abbrev pub after_post : View → Message → View
+after_post v message = record v { senders = map (after_put message) v.senders }
+
+-- what one step of a port does: one of its senders puts a message in
+abbrev pub Puts : View → Message → View → Type 0
+Puts v message w = w ≡ after_post v message
 
 -- a message is taken out
 abbrev pub Takes : View → Message → View → Type 0
@@ -78,6 +93,12 @@ Takes v message w = w ≡ after_taking v (message ∷ [])
 -- of each sender of the port, all that it put in was taken out
 abbrev pub IsEmptied : View → Type 0
 IsEmptied v = AllByRecursion (λ (s : Sender). s.put ≡ messages_of s.from v.taken) v.senders
+
+-- every right, with those of all senders
+pub record IsWhole (v : View) : Type 0 where
+  pub takes : v.takes ≡ true
+  pub gives : v.gives ≡ true
+  pub senders : (from : ℕ) → from < v.next → HasPort from v
 
 -- some messages were taken out
 pub record TakesSome (v w : View) : Type 0 where

@@ -1,7 +1,7 @@
 // How messages are taken out.
 ghost use Rattle.std.specs.Prelude.{◌≡◌, ◌<◌, ◌≤◌, true, IfOk, OnErr, OnOk, length};
 ghost use Rattle.crossbeam_queue.specs.Passes.{IsPassOf, IsSamePass, ruled_capacity, view};
-ghost use Rattle.hg_mail.specs.Messages.{IsEmptied, TakesSome, after_taking};
+ghost use Rattle.hg_mail.specs.Messages.{IsEmptied, IsWhole, TakesSome, after_taking};
 ghost use Rattle.hg_mail.specs.Rule.{HeldAt};
 
 use crate::message::Message;
@@ -36,7 +36,7 @@ pub fn collect_by<R: Wait>(
     Ok(taken)
 }
 
-/// Takes out all, until the queue is empty.
+/// Takes out all, until the queue is empty. How many it holds is read first: by a pass with all rights so many are taken out.
 pub fn drain_by<R: Wait>(
     rt: &R,
     alloc: Global,
@@ -49,8 +49,10 @@ pub fn drain_by<R: Wait>(
     ensures view { IfOk result (λ left. view pass.new ≡ after_taking (view pass.old) left.items) }
     ensures none { OnOk result (HeldAt (view pass.new) 0) }
     ensures whole { OnOk result (IsEmptied (view pass.new)) }
+    ensures room { IsWhole (view pass.old) → IfOk result (λ left. length left.items ≤ ruled_capacity queue.now) }
     ensures err { OnErr result (TakesSome (view pass.old) (view pass.new)) }
 {
+    queue.len_as::<Take, R>(rt, pass);
     let mut left = Vec::new(alloc);
     for _ in rt.forever() {
         left.reserve(1)?;

@@ -1,5 +1,5 @@
 ghost use Rattle.std.specs.Prelude.{◌≡◌, ◌<◌, ◌≤◌, ◌%◌, ◌^◌, true, IfOk, OnErr, OnOk, length, max};
-ghost use Rattle.hg_mail.specs.Messages.{IsEmptied, IsSender};
+ghost use Rattle.hg_mail.specs.Messages.{HasPort, IsEmptied, IsWhole};
 ghost use Rattle.hg_mail.specs.Rule.{HeldAt};
 ghost use Rattle.hg_mail.specs.Count.{all_parts};
 ghost use Rattle.hg_mail.specs.Mailboxes.{IsPortOf, IsOpened, Posts, TakesSome, after_hand, after_issue, after_looking, after_taking, handed, issued, joined, spent};
@@ -157,12 +157,12 @@ impl Mailbox {
         look(&self.counter.shared, seat)
     }
 
-    /// Puts a message in, by the port of its sender. It comes back only where the mailbox held as many messages as it has
-    /// room for at a step of this call, and so many were put in and counted by its end, as the port has seen; the port counts
-    /// how often.
+    /// Puts a message in, by a port that puts in for its sender. It comes back only where the mailbox held as many messages as
+    /// it has room for at a step of this call, and so many were put in and counted by its end, as the port has seen; the port
+    /// counts how often.
     pub fn post<R: Wait>(&self, rt: &R, port: &mut Port, message: Message) -> PostAnswer
         requires of { IsPortOf self.now port.old }
-        requires sender { IsSender message.from port.old.view }
+        requires sender { HasPort message.from port.old.view }
         requires part { 0 < port.old.count.parts }
         ensures { Posts self.now port.old message result port.new }
     {
@@ -191,8 +191,8 @@ impl Mailbox {
     }
 
     /// Takes out all that is left: the mailbox held none at a step of this call. Then all is taken out that was put in by the
-    /// senders whose ports this one has taken back, since they put in no more. Without memory some messages may have been
-    /// taken out, and are lost.
+    /// senders whose ports this one has taken back, since they put in no more; where it has taken all back, no more was left
+    /// than there is room for. Without memory some messages may have been taken out, and are lost.
     pub fn drain<R: Wait>(
         &self,
         rt: &R,
@@ -204,6 +204,7 @@ impl Mailbox {
         ensures port { IfOk result (λ left. port.new ≡ after_taking port.old left.items) }
         ensures none { OnOk result (HeldAt port.new.view 0) }
         ensures whole { OnOk result (IsEmptied port.new.view) }
+        ensures room { IsWhole port.old.view → IfOk result (λ left. length left.items ≤ self.now.room) }
         ensures err { OnErr result (TakesSome port.old port.new) }
     {
         let pass = &mut port.pass;

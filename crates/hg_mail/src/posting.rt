@@ -1,6 +1,6 @@
 ghost use Rattle.std.specs.Prelude.{◌≡◌, ◌<◌};
 ghost use Rattle.crossbeam_queue.specs.Passes.{IsPassOf, IsSamePass, ruled_capacity, view};
-ghost use Rattle.hg_mail.specs.Messages.{IsSender};
+ghost use Rattle.hg_mail.specs.Messages.{HasPort};
 ghost use Rattle.hg_mail.specs.Mailboxes.{AnswersAt};
 
 use crate::counting::{look, note_full, raise};
@@ -30,7 +30,7 @@ pub fn post_by<R: Wait>(
     requires pass { IsPassOf queue.now pass.old }
     requires size { counter.now.table_id.words ≡ 1 }
     requires table { seat.old.table_id ≡ counter.now.table_id }
-    requires sender { IsSender message.from (view pass.old) }
+    requires sender { HasPort message.from (view pass.old) }
     requires part { 0 < seat.old.me.0.parts }
     ensures pass { IsSamePass pass.old pass.new }
     ensures seat { (seat.new.table_id ≡ seat.old.table_id) × (seat.new.me.1 ≡ seat.old.me.1) }

@@ -90,9 +90,16 @@ rising_apart (m ∷ ms) rising zero (suc y) low_x low_y same = let less = all_ap
 rising_apart (m ∷ ms) rising (suc x) zero low_x low_y same = let less = all_apart m ms x rising.0 (omega (arith, low_x)) in absurd (omega (arith, less, same))
 rising_apart (m ∷ ms) rising (suc x) (suc y) low_x low_y same = ap suc (rising_apart ms rising.1 x y (omega (arith, low_x)) (omega (arith, low_y)) same)
 
+-- .. and they rise
+abbrev pub AreRising : List ℕ → Type 0
+AreRising ms = IsPairwise (λ (a b : ℕ). a < b) ms
+
+pub circle_rises : (members : MemberList) (circle : List ℕ) → circle ≡ circle_of members → AreRising circle
+circle_rises members circle is =
+    subst AreRising (sym is) (IsPairwise-list_below (λ a b. a < b) (λ m. m) (length members.entries) (has_node members) (λ j k low. low))
+
 circle_apart : (members : MemberList) (circle : List ℕ) → circle ≡ circle_of members → AreApart circle
-circle_apart members circle is =
-    subst AreApart (sym is) (rising_apart (circle_of members) (IsPairwise-list_below (λ a b. a < b) (λ m. m) (length members.entries) (has_node members) (λ j k low. low)))
+circle_apart members circle is = rising_apart circle (circle_rises members circle is)
 
 -- the other one is within and is not the member itself
 other_inside : (place n b : ℕ) → b < n - 1 → place < n → peer_of place b < n
@@ -213,6 +220,35 @@ module _ (f : ℕ → ℕ) where
     pub sum_in : (n : ℕ) → ((j : ℕ) → j < n → 0 < f j → Stands ms j) → sum_below n f ≤ sum_by f ms
     sum_in n stand = omega (arith, all_count n stand, sum_by-le-sum_by (up_to n) f ms (at_most n))
 
+  -- among numbers that rise one stands at most once
+  only_past : (m : ℕ) (ms : List ℕ) → AllByRecursion (λ x. m < x) ms → sum_by (only m) ms ≡ 0
+  only_past m [] all = refl
+  only_past m (x ∷ ms) all =
+      let not_it : ◌≡◌ {A = ℕ} (cond (eqb x m) (f x) 0) 0 = ap (λ (b : Bool). cond b (f x) 0) (ne_eqb x m (λ e. let same : x ≡ m = e in absurd (omega (arith, all.0, same)))) in
+      omega (arith, sum_by-cons (only m) x ms, not_it, only_past m ms all.1)
+
+  pub only_once : (n : ℕ) (ms : List ℕ) → AreRising ms → sum_by (only n) ms ≤ f n
+  only_once n [] rising = omega arith
+  only_once n (m ∷ ms) rising = dite (ℕ_discrete m n)
+      (λ e.
+      let same : m ≡ n = e in
+      let it : ◌≡◌ {A = ℕ} (cond (eqb m n) (f m) 0) (f n) = ap (λ (b : Bool). cond b (f m) 0) (eq-eqb m n same) ∙ ap f same in
+      let none : sum_by (only n) ms ≡ 0 = subst (λ (k : ℕ). sum_by (only k) ms ≡ 0) same (only_past m ms rising.0) in
+      omega (arith, sum_by-cons (only n) m ms, it, none))
+      (λ ne.
+      let not_it : ◌≡◌ {A = ℕ} (cond (eqb m n) (f m) 0) 0 = ap (λ (b : Bool). cond b (f m) 0) (ne_eqb m n ne) in
+      omega (arith, sum_by-cons (only n) m ms, not_it, only_once n ms rising.1))
+
+  none_up_to : (ms : List ℕ) → sum_by (up_to 0) ms ≡ 0
+  none_up_to [] = refl
+  none_up_to (m ∷ ms) =
+      let none : ◌≡◌ {A = ℕ} (cond (ltb m 0) (f m) 0) 0 = ap (λ (b : Bool). cond b (f m) 0) (le-ltb m 0 (omega arith)) in
+      omega (arith, sum_by-cons (up_to 0) m ms, none, none_up_to ms)
+
+  most_up_to : (n : ℕ) (ms : List ℕ) → AreRising ms → sum_by (up_to n) ms ≤ sum_below n f
+  most_up_to zero ms rising = omega (arith, none_up_to ms)
+  most_up_to (suc n) ms rising = omega (arith, most_up_to n ms rising, only_once n ms rising, sum_more n ms)
+
 -- where the values of the elements are no less, their sum is not
 sums_rise : {A : Type 0} (f g : A → ℕ) (xs : List A) → All (λ (x : A). f x ≤ g x) xs → sum_by f xs ≤ sum_by g xs
 sums_rise f g [] all = omega arith
@@ -224,6 +260,26 @@ sums_same f g [] all = refl
 sums_same {A} f g (x ∷ xs) all =
     let here : f x ≡ g x = all 0 x (omega arith) in
     omega (arith, sum_by-cons f x xs, sum_by-cons g x xs, here, sums_same f g xs (λ k d low. all (suc k) d (omega (arith, low))))
+
+-- a sum over some of the first numbers, which rise, is no more than one over all of them
+sum_of_some : (f : ℕ → ℕ) (n : ℕ) (ms : List ℕ) → AreRising ms → All (λ j. j < n) ms → sum_by f ms ≤ sum_below n f
+sum_of_some f n ms rising below =
+    let same : sum_by f ms ≡ sum_by (up_to f n) ms = sums_same f (up_to f n) ms
+    (All-weaker (λ j. j < n) (λ j. f j ≡ up_to f n j) (λ j low. sym (ap (λ (b : Bool). cond b (f j) 0) (lt-ltb j n low))) ms below) in
+    omega (arith, same, most_up_to f n ms rising)
+
+-- one over those that pass is no more than one over all
+sum_filter : {A : Type 0} (f : A → ℕ) (p : A → Bool) (xs : List A) → sum_by f (filter p xs) ≤ sum_by f xs
+sum_filter f p [] = omega arith
+sum_filter {A} f p (x ∷ xs) = let here : sum_by f (filter p (x ∷ xs)) ≤ f x + sum_by f (filter p xs) = passes (p x) in omega (arith, here, sum_by-cons f x xs, sum_filter f p xs)
+  where
+    passes : (b : Bool) → sum_by f (cond b (x ∷ filter p xs) (filter p xs)) ≤ f x + sum_by f (filter p xs)
+    passes true = omega (arith, sum_by-cons f x (filter p xs))
+    passes false = omega arith
+
+pub sum_of_map : {A B : Type 0} (f : B → ℕ) (h : A → B) (xs : List A) → sum_by f (map h xs) ≡ sum_by (λ (x : A). f (h x)) xs
+sum_of_map f h [] = refl
+sum_of_map {A} f h (x ∷ xs) = omega (arith, sum_by-cons f (h x) (map h xs), sum_by-cons (λ (y : A). f (h y)) x xs, sum_of_map f h xs)
 
 module _ {A : Type 0} (f : A → ℕ) where
   sum_flat : {X : Type 0} (h : X → List A) (xs : List X) → sum_by f (flat_map h xs) ≡ sum_by (λ (x : X). sum_by f (h x)) xs
@@ -254,4 +310,21 @@ module _ (circle : List ℕ) (g : ℕ → ℕ → ℕ) (to : ℕ) where
         flat,
         sum_in (λ j. g j to) circle n (λ j low some. (peers j low some).sender),
         sums_rise (λ j. g j to) (λ j. sum_by in_pair (pairs_from circle j)) circle (All-weaker (λ j. j < n) (λ j. g j to ≤ sum_by in_pair (pairs_from circle j)) (λ j low. pair_counts j (peers j low)) circle below),
+      )
+
+  -- .. and no less than what the pairs say, as no member stands twice
+  pair_once : (from : ℕ) → AreRising circle → sum_by in_pair (pairs_from circle from) ≤ g from to
+  pair_once from rising =
+      let others : ℕ → Bool = λ k. not (eqb k from) in
+      let mapped : sum_by in_pair (pairs_from circle from) ≡ sum_by (only (g from) to) (filter others circle) = sum_of_map in_pair (λ (k : ℕ). (from, k)) (filter others circle) in
+      omega (arith, mapped, sum_filter (only (g from) to) others circle, only_once (g from) to circle rising)
+
+  pub sum_in_all : (n : ℕ) → AreRising circle → All (λ j. j < n) circle → sum_by in_pair (pairs_in circle) ≤ sum_below n (λ j. g j to)
+  sum_in_all n rising below =
+      let flat : sum_by in_pair (pairs_in circle) ≡ sum_by (λ j. sum_by in_pair (pairs_from circle j)) circle = sum_flat in_pair (pairs_from circle) circle in
+      omega (
+        arith,
+        flat,
+        sums_rise (λ j. sum_by in_pair (pairs_from circle j)) (λ j. g j to) circle (λ k d low. pair_once (get_or circle k d) rising),
+        sum_of_some (λ j. g j to) n circle rising below,
       )

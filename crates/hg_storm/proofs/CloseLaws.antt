@@ -1,6 +1,6 @@
 -- What is known once all ports and seats are back, and what the mailboxes have left
 use Rattle.std.specs.Prelude.{IfOk, OnOk, Vec}
-use Rattle.std.proofs.Common.{◌≡◌, ◌≢◌, ⊎_elim, ℕ, ◌+◌, ◌<◌, ◌≤◌, nat_eq, nat_le, true, Result, Ok, Err, List, [], ◌∷◌, ◌++◌, length, drop, map, get_or, set, refl, sym, ap, ◌∙◌, subst, arith}
+use Rattle.std.proofs.Common.{◌≡◌, ◌≢◌, inl, inr, ⊎_elim, ℕ, ◌+◌, ◌<◌, ◌≤◌, nat_eq, nat_le, true, Result, Ok, Err, List, [], ◌∷◌, ◌++◌, length, drop, map, get_or, set, refl, sym, ap, ◌∙◌, subst, arith}
 use Rattle.std.specs.List.{AllByRecursion}
 use Rattle.std.proofs.lemmas.Bool.{lt-leb}
 use Rattle.std.proofs.lemmas.List.{append-nil, append_assoc, get_or-map, get_or-set_other, get_or_default, length-append, length-map, length-set, length_push, nil_from_length}
@@ -10,7 +10,7 @@ use Rattle.hg_mail.specs.declared.message.Message.{Message}
 use Rattle.hg_mail.specs.declared.view.Sender.{Sender}
 use Rattle.hg_mail.specs.Count.{all_parts}
 use Rattle.hg_mail.specs.declared.view.View.{View}
-use Rattle.hg_mail.specs.Messages.{AreFrom, IsEmptied, after_taking, messages_of, sender}
+use Rattle.hg_mail.specs.Messages.{AreFrom, IsAmong, IsEmptied, IsWhole, after_taking, messages_of, sender}
 use Rattle.hg_mail.specs.Rule.{HeldAt}
 use Rattle.hg_mail.specs.Mailboxes as mailbox
 use Rattle.hg_mail.specs.Mailboxes.{MailboxView, PortView}
@@ -47,15 +47,17 @@ absorbed_take_out mails places jobs masters lasts told places_count jobs_count o
 -- ---- what is left
 
 -- a port that counted and took out all, at whose end the mailbox held none
-pub empties : {Z E : Type 0} (p q r : PortView) (counted : ℕ) (result : Result (Vec Message Z) E) → q ≡ mailbox.after_looking p counted → (p.count.parts ≡ all_parts → q.count.seen ≤ p.count.mine) → p.view.takes ≡ true →
-    IfOk result (λ (left : Vec Message Z). r ≡ mailbox.after_taking q left.items) → OnOk result (HeldAt r.view 0) → OnOk result (IsEmptied r.view) → IfOk result (λ (left : Vec Message Z). Empties p left.items)
-empties p q r counted (Err e) looked whole takes taken none all = tt
-empties p q r counted (Ok left) looked whole takes taken none all =
+pub empties : {Z E : Type 0} (m : MailboxView) (p q r : PortView) (counted : ℕ) (result : Result (Vec Message Z) E) → q ≡ mailbox.after_looking p counted → (p.count.parts ≡ all_parts → q.count.seen ≤ p.count.mine) → p.view.takes ≡ true →
+    IfOk result (λ (left : Vec Message Z). r ≡ mailbox.after_taking q left.items) → OnOk result (HeldAt r.view 0) → OnOk result (IsEmptied r.view) → (IsWhole q.view → IfOk result (λ (left : Vec Message Z). length left.items ≤ m.room)) →
+    IfOk result (λ (left : Vec Message Z). Empties m p left.items)
+empties m p q r counted (Err e) looked whole takes taken none all room = tt
+empties m p q r counted (Ok left) looked whole takes taken none all room =
     let view : r.view ≡ after_taking p.view left.items = ap (λ (x : PortView). x.view) taken ∙ ap (λ (x : PortView). after_taking x.view left.items) looked in
     record {
       all = subst IsEmptied view all;
       known = from_senders (after_taking p.view left.items) takes (subst (λ (w : View). HeldAt w 0) view none);
       whole = λ parts. let seen = whole parts in let is = ap (λ (x : PortView). x.count.seen) looked in omega (arith, seen, is);
+      few = λ all_back. room (subst IsWhole (sym (ap (λ (x : PortView). x.view) looked)) all_back);
     }
 
 -- of one of the senders
@@ -64,36 +66,52 @@ of_sender P s [] has all = absurd has
 of_sender P s (x ∷ ss) has all = ⊎_elim (λ (is : x ≡ s). subst P is all.0) (λ (rest : HasSender s ss). of_sender P s ss rest all.1) has
 
 -- what was put is what was taken, and what is left
-put_is : (tale : Tale) (n j k : ℕ) (m : MailboxView) (q : PortView) (left : List Message) → j < n → k < n → IsBack tale n n k m q → Empties q left →
+put_is : (tale : Tale) (n j k : ℕ) (m : MailboxView) (q : PortView) (left : List Message) → j < n → k < n → IsBack tale n n k m q → Empties m q left →
     tale.put j k ≡ messages_of j (tale.taken k) ++ messages_of j left
 put_is tale n j k m q left j_in k_in b e =
     of_sender (λ (s : Sender). s.put ≡ messages_of s.from (q.view.taken ++ left)) (sender j (tale.put j k)) q.view.senders (b.senders j j_in) e.all
     ∙ (filter-append (λ (x : Message). nat_eq x.from j) q.view.taken left ∙ ap (λ (ms : List Message). messages_of j ms ++ messages_of j left) (b.taken k_in))
 
 -- each message is of a member
-known_is : (tale : Tale) (n k : ℕ) (m : MailboxView) (q : PortView) (left : List Message) → k < n → IsBack tale n n k m q → Empties q left → AreFrom n (tale.taken k ++ left)
+known_is : (tale : Tale) (n k : ℕ) (m : MailboxView) (q : PortView) (left : List Message) → k < n → IsBack tale n n k m q → Empties m q left → AreFrom n (tale.taken k ++ left)
 known_is tale n k m q left k_in b e = subst (λ (x : ℕ × List Message). AreFrom x.0 (x.1 ++ left)) (λ i. (b.next i, b.taken k_in i)) (e.known b.gives)
+
+is_among : (s : Sender) (ss : List Sender) → HasSender s ss → IsAmong s.from ss
+is_among s [] has = absurd has
+is_among s (x ∷ ss) has = ⊎_elim (λ (is : x ≡ s). inl (ap (λ (y : Sender). y.from) is)) (λ (rest : HasSender s ss). inr (is_among s ss rest)) has
+
+-- the port has every right
+back_whole : (tale : Tale) (n k : ℕ) (m : MailboxView) (q : PortView) → k < n → IsBack tale n n k m q → IsWhole q.view
+back_whole tale n k m q inside b = record {
+  takes = b.takes inside;
+  gives = b.gives;
+  senders = λ from low. is_among (sender from (tale.put from k)) q.view.senders (b.senders from (omega (arith, low, b.next)));
+}
 
 module _ {Z : Type 0} where
   -- of each member what it put into each mailbox is what was taken of it and what is left
   pub all_are_emptied : (tale : Tale) (n : ℕ) (mails : List MailboxView) (masters : List PortView) (left : List (Vec Message Z)) → length mails ≤ n →
-      AreBack tale n n mails masters → EmptyAll masters left → AreEmptied tale n mails left
+      AreBack tale n n mails masters → EmptyAll mails masters left → AreEmptied tale n mails left
   all_are_emptied tale n mails masters left few back empty = record {
     count = empty.count ∙ back.count;
     mail = λ j k l j_in k_in.
         let Q : Type 0 = tale.put j k ≡ messages_of j (tale.taken k) ++ messages_of j (get_or left k l).items in
         first_of Q mails (omega (arith, k_in)) (λ m. first_of Q masters (omega (arith, k_in, back.count)) (λ q.
-        put_is tale n j k (get_or mails k m) (get_or masters k q) (get_or left k l).items j_in (omega (arith, k_in, few)) (back.each k m q k_in) (empty.each k q l (omega (arith, k_in, back.count)))));
+        put_is tale n j k (get_or mails k m) (get_or masters k q) (get_or left k l).items j_in (omega (arith, k_in, few)) (back.each k m q k_in) (empty.each k q l (omega (arith, k_in, back.count)) m)));
     known = λ k l k_in.
         let Q : Type 0 = AreFrom n (tale.taken k ++ (get_or left k l).items) in
         first_of Q mails (omega (arith, k_in)) (λ m. first_of Q masters (omega (arith, k_in, back.count)) (λ q.
-        known_is tale n k (get_or mails k m) (get_or masters k q) (get_or left k l).items (omega (arith, k_in, few)) (back.each k m q k_in) (empty.each k q l (omega (arith, k_in, back.count)))));
+        known_is tale n k (get_or mails k m) (get_or masters k q) (get_or left k l).items (omega (arith, k_in, few)) (back.each k m q k_in) (empty.each k q l (omega (arith, k_in, back.count)) m)));
+    few = λ k l m k_in.
+        let Q : Type 0 = length (get_or left k l).items ≤ (get_or mails k m).room in
+        first_of Q masters (omega (arith, k_in, back.count)) (λ q.
+        (empty.each k q l (omega (arith, k_in, back.count)) m).few (back_whole tale n k (get_or mails k m) (get_or masters k q) (omega (arith, k_in, few)) (back.each k m q k_in)));
     full = λ j k m j_in k_in some.
         let Q : Type 0 = (get_or mails k m).room ≤ put_to tale n k in
         first_of Q masters (omega (arith, k_in, back.count)) (λ q.
         let b = back.each k m q k_in in
         first_of Q left (omega (arith, k_in, back.count, empty.count)) (λ l.
-        let seen = (empty.each k q l (omega (arith, k_in, back.count))).whole (back_parts tale n k (get_or mails k m) (get_or masters k q) (omega (arith, k_in, few)) b) in
+        let seen = (empty.each k q l (omega (arith, k_in, back.count)) m).whole (back_parts tale n k (get_or mails k m) (get_or masters k q) (omega (arith, k_in, few)) b) in
         omega (arith, b.full j j_in some, seen, b.mine)));
   }
 
@@ -197,25 +215,33 @@ module _ (mails : List MailboxView) (places : List (SharedNode Secrets)) (jobs r
 -- ---- one mailbox after the other is emptied
 
 -- the first ones are: their ports have changed, and the others not
-pub record Emptying {Z : Type 0} (i : ℕ) (olds news : List PortView) (left : List (Vec Message Z)) : Type 0 where
+pub record Emptying {Z : Type 0} (i : ℕ) (mails : List MailboxView) (olds news : List PortView) (left : List (Vec Message Z)) : Type 0 where
   pub count : length news ≡ length olds
   pub left_count : length left ≡ i
   pub still : (k : ℕ) (q : PortView) → i ≤ k → get_or news k q ≡ get_or olds k q
-  pub each : (k : ℕ) (q : PortView) (l : Vec Message Z) → k < i → Empties (get_or olds k q) (get_or left k l).items
+  pub each : (k : ℕ) (q : PortView) (l : Vec Message Z) → k < i → (m : MailboxView) → Empties (get_or mails k m) (get_or olds k q) (get_or left k l).items
 
 module _ {Z : Type 0} where
   -- the port that is read next is as it was
-  emptying_read : (i : ℕ) (olds news : List PortView) (left : List (Vec Message Z)) (q : PortView) → Emptying i olds news left → q ≡ get_or news i q → q ≡ get_or olds i q
-  emptying_read i olds news left q e is = is ∙ e.still i q (omega arith)
+  emptying_read : (i : ℕ) (mails : List MailboxView) (olds news : List PortView) (left : List (Vec Message Z)) (q : PortView) → Emptying i mails olds news left → q ≡ get_or news i q → q ≡ get_or olds i q
+  emptying_read i mails olds news left q e is = is ∙ e.still i q (omega arith)
 
-  pub emptying_one : (i : ℕ) (olds news : List PortView) (left : List (Vec Message Z)) (q r : PortView) (rest : Vec Message Z) → Emptying i olds news left → i < length olds →
-      q ≡ get_or news i q → Empties q rest.items → Emptying (i + 1) olds (set news i r) (left ++ rest ∷ [])
-  emptying_one i olds news left q r rest e inside is empties = record {
+  pub emptying_one : (i : ℕ) (mails : List MailboxView) (olds news : List PortView) (left : List (Vec Message Z)) (box : MailboxView) (q r : PortView) (rest : Vec Message Z) → Emptying i mails olds news left → i < length mails →
+      i < length olds → box ≡ get_or mails i box → q ≡ get_or news i q → Empties box q rest.items → Emptying (i + 1) mails olds (set news i r) (left ++ rest ∷ [])
+  emptying_one i mails olds news left box q r rest e box_in inside box_is is empties = record {
     count = length-set news i r ∙ e.count;
     left_count = omega (arith, length_push left rest, e.left_count);
     still = λ k d above. let ne : k ≢ i = (λ x. absurd (omega (arith, x, above))) in get_or-set_other news i k r d ne ∙ e.still k d (omega (arith, above));
-    each = λ k d l below. push_at (λ (z : ℕ) (x : Vec Message Z). Empties (get_or olds z d) x.items) left rest
-        (subst (λ (z : ℕ). Empties (get_or olds z d) rest.items) (sym e.left_count)
-        (subst (λ (x : PortView). Empties x rest.items) (emptying_read i olds news left q e is ∙ get_or_default olds i q d inside) empties))
-        (λ z x z_in. e.each z d x (omega (arith, z_in, e.left_count))) k l (omega (arith, below, e.left_count));
+    each = λ k d l below m. push_at (λ (z : ℕ) (x : Vec Message Z). Empties (get_or mails z m) (get_or olds z d) x.items) left rest
+        (subst (λ (z : ℕ). Empties (get_or mails z m) (get_or olds z d) rest.items) (sym e.left_count)
+        (subst (λ (x : MailboxView × PortView). Empties x.0 x.1 rest.items)
+        (λ z. ((box_is ∙ get_or_default mails i box m box_in) z, (emptying_read i mails olds news left q e is ∙ get_or_default olds i q d inside) z)) empties))
+        (λ z x z_in. e.each z d x (omega (arith, z_in, e.left_count)) m) k l (omega (arith, below, e.left_count));
+  }
+
+  -- all are
+  pub emptied_all : (i : ℕ) (mails : List MailboxView) (olds news : List PortView) (left : List (Vec Message Z)) → Emptying i mails olds news left → i ≡ length mails → length olds ≡ length mails → EmptyAll mails olds left
+  emptied_all i mails olds news left e all same = record {
+    count = omega (arith, e.left_count, all, same);
+    each = λ k q l inside m. e.each k q l (omega (arith, inside, all, same)) m;
   }

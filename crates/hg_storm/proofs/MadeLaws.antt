@@ -158,7 +158,7 @@ AddsFor time None more = more ≡ []
 AddsFor time (Some (answer.Made place)) more = (row : Row) × (more ≡ Made row ∷ []) × (row.time ≡ time)
 AddsFor time (Some (answer.Refused fault)) more = more ≡ []
 
-cancelled : (h xs ys : List Change) → h ++ xs ≡ h ++ ys → xs ≡ ys
+pub cancelled : (h xs ys : List Change) → h ++ xs ≡ h ++ ys → xs ≡ ys
 cancelled [] xs ys e = e
 cancelled (x ∷ h) xs ys e = cancelled h xs ys (tails e)
   where

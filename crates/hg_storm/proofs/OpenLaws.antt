@@ -15,6 +15,7 @@ use Rattle.hg_mail.specs.Messages.{sender_view, receiver_view}
 use Rattle.hg_mail.specs.Mailboxes.{IsOpened, IsPortOf, MailboxView, PortView, after_hand, after_issue, handed, issued}
 use Rattle.hg_board.specs.Seats.{IsOf, SharedNode, SeatView}
 use Rattle.hg_board.specs.Calls.{after_split, split_off}
+use Rattle.hg_board.proofs.PositionLaws.{times_none}
 use Rattle.hg_crowd.specs.Crowd.{AreSeats, IsSeat}
 use Rattle.hg_crowd.specs.Workers.{HasMore}
 use Rattle.hg_crowd.proofs.ListLaws.{pair_at, some_of}
@@ -348,6 +349,10 @@ begins plan place mails p own log first ports inbox inside room seat new senders
   room = room;
   some = λ no. absurd (omega (arith, no));
   rows = omega (arith, new.idle, none_made);
+  turned = record {
+    each = λ q row own at. absurd (omega (arith, own, times_none q));
+    rising = λ q r a b own other less at there. absurd (omega (arith, own, times_none q));
+  };
   idle = new.idle;
   ended = λ no. absurd (omega (arith, no));
   dues = λ k d drew. absurd (omega (arith, drew.early));

@@ -1,5 +1,5 @@
 -- Rows that are sent one after the other, and a node that goes on meanwhile
-use Rattle.std.proofs.Common.{◌≡◌, ⊎_elim, ℕ, zero, suc, ◌+◌, ◌<◌, ◌≤◌, List, [], ◌∷◌, ◌++◌, length, map, take, drop, refl, sym, ap, ◌∙◌, subst, append_assoc, arith}
+use Rattle.std.proofs.Common.{◌≡◌, inl, Bool, cond, eq-eqb, ⊎_elim, ℕ, zero, suc, ◌+◌, ◌<◌, ◌≤◌, List, [], ◌∷◌, ◌++◌, length, map, take, drop, refl, sym, ap, ◌∙◌, subst, append_assoc, arith}
 use Rattle.std.proofs.lemmas.List.{append-nil, length-append, length-drop, length-map, length-take, length-take-le, map-append, take-append-drop, take-append-le, take-map}
 use Rattle.std.proofs.lemmas.List.{drop-map}
 use Rattle.std.proofs.Math.Seq.{take-length}
@@ -9,9 +9,8 @@ use Rattle.hg_life.specs.Spelling.{spelling}
 use Rattle.hg_life.specs.NodeView.{node_rows}
 use Rattle.hg_history.proofs.StateLaws.{prefix_more, rows_grow}
 use Rattle.hg_mail.specs.declared.message.Message.{Message}
-use Rattle.hg_mail.specs.declared.view.Sender.{Sender}
 use Rattle.hg_mail.specs.declared.view.View.{View}
-use Rattle.hg_mail.specs.Messages.{IsSender, sender_view}
+use Rattle.hg_mail.specs.Messages.{HasPort, IsSender, after_post, sender_view}
 use Rattle.hg_mail.specs.Rule.{HeldAt}
 use Rattle.hg_mail.specs.Mailboxes.{IsFull, IsPortOf, IsPosted, MailboxView, PortView}
 use Rattle.hg_board.specs.Copies.{bytes_from}
@@ -70,9 +69,12 @@ messages_from-append from place (x ∷ xs) ys =
 
 -- one row after the other
 
-abbrev put_by : List Sender → List Message
-put_by [] = []
-put_by (s ∷ ss) = s.put
+-- a port of one sender alone puts in for it, and what is put in through it is the sender's
+pub its_port : (from : ℕ) (v : View) → IsSender from v → HasPort from v
+its_port from v is = subst (HasPort from) (sym is.is) (inl refl)
+
+posts_alone : (from : ℕ) (put : List Message) (m : Message) → m.from ≡ from → after_post (sender_view from put) m ≡ sender_view from (put ++ m ∷ [])
+posts_alone from put m is = ap (λ (b : Bool). sender_view from (put ++ cond b (m ∷ []) [])) (eq-eqb m.from from is)
 
 pub sends_none : (from place : ℕ) (p : PortView) → Sends from place [] p p
 sends_none from place p = record {
@@ -88,9 +90,9 @@ sends_one from place rows bytes p q r sends posted =
     let m : Message = record { from = from; number = place + length rows; bytes = bytes } in record {
       put = λ put is.
           let all : List Message = put ++ messages_from from place rows in
-          let same : posted.put.put ≡ all = ap (λ (v : View). put_by v.senders) (sym posted.put.before ∙ sends.put put is) in
-          posted.put.after
-          ∙ ap (λ (ms : List Message). sender_view from (ms ++ m ∷ [])) same
+          posted.put
+          ∙ ap (λ (v : View). after_post v m) (sends.put put is)
+          ∙ posts_alone from all m refl
           ∙ ap (sender_view from) (append_assoc put (messages_from from place rows) (m ∷ []) ∙ ap (λ (ms : List Message). put ++ ms) (sym (messages_from-append from place rows (bytes ∷ []))));
       parts = posted.parts ∙ sends.parts;
       mine = omega (arith, posted.mine, sends.mine, length_push rows bytes);

@@ -1,12 +1,13 @@
 -- The mails by names alone: what each member sent each other, and what all sent to one
-use Rattle.std.proofs.Common.{◌≡◌, ℕ, ◌<◌, ◌≤◌, cond, eqb, List, [], ◌∷◌, length, take, map, get_or, sum_by, refl, sym, ap, ◌∙◌, subst, arith}
+use Rattle.std.proofs.Common.{◌≡◌, ℕ, zero, suc, ◌+◌, ◌<◌, ◌≤◌, cond, eqb, List, [], length, take, map, get_or, sum_by, refl, sym, ap, ◌∙◌, subst, arith}
 use Rattle.std.specs.Prelude.{All}
 use Rattle.std.specs.Global.{Vec}
-use Rattle.std.proofs.lemmas.List.{get_or_default, get_or-map, length-take-le}
-use Rattle.std.proofs.lemmas.List.Sums.{sum_by-cons}
+use Rattle.std.proofs.lemmas.List.{get_or_default, get_or-map, length-map, length-take-le}
 use Rattle.hg_life.specs.Members.{MemberList}
 use Rattle.hg_life.specs.NodeView.{NodeView}
 use Rattle.hg_mail.specs.declared.message.Message.{Message}
+use Rattle.hg_mail.specs.Messages.{AreFrom, messages_of}
+use Rattle.hg_mail.proofs.MessageLaws.{count_all, count_from}
 use Rattle.hg_crowd.proofs.ListLaws.{some_of}
 use Rattle.hg_storm.specs.declared.desk.Log.{Log}
 use Rattle.hg_storm.specs.declared.mails.Mail.{Mail}
@@ -14,16 +15,18 @@ use Rattle.hg_storm.specs.declared.plan.Plan.{Plan}
 use Rattle.hg_storm.specs.declared.sending.Dispatch.{Dispatch}
 use Rattle.hg_storm.specs.declared.threads.Joined.{Joined}
 use Rattle.hg_storm.specs.Drawing.{circle_of}
-use Rattle.hg_storm.specs.Joins.{AreTold, IsSentTo, dispatch_to, put_to, rows_of_node, tale_told}
+use Rattle.hg_storm.specs.Joins.{AreTold, IsSentTo, dispatch_to, put_to, rows_of_node, sum_below, tale_told}
 use Rattle.hg_storm.specs.Keeping.{Secrets}
-use Rattle.hg_storm.specs.Mails.{AreMails, AreMailsOf, IsMail, IsMailIn, IsToldMail, dispatch_of, names_in, names_to, pair_of, pairs_in}
+use Rattle.hg_storm.specs.Mails.{AreMails, AreMailsOf, IsMail, IsMailIn, IsToldMail, dispatch_of, names_in, names_left, names_to, pair_of, pairs_in}
 use Rattle.hg_storm.proofs.BackLaws.{length-messages}
-use Rattle.hg_storm.proofs.CircleLaws.{are_peers, in_pair, sum_in_pairs, sums_same}
+use Rattle.hg_storm.proofs.CircleLaws.{are_peers, circle_rises, in_pair, sum_in_all, sum_in_pairs, sum_of_map, sums_same}
+use Rattle.hg_storm.proofs.MailLaws.{all_back}
 use Rattle.hg_storm.proofs.NameLaws.{has_drawn}
 
-sum_of_map : {A B : Type 0} (f : B → ℕ) (h : A → B) (xs : List A) → sum_by f (map h xs) ≡ sum_by (λ (x : A). f (h x)) xs
-sum_of_map f h [] = refl
-sum_of_map {A} f h (x ∷ xs) = omega (arith, sum_by-cons f (h x) (map h xs), sum_by-cons (λ (y : A). f (h y)) x xs, sum_of_map f h xs)
+-- how many messages are of the first senders, each counted for itself
+sum_of_senders : (n : ℕ) (ms : List Message) → sum_below n (λ j. length (messages_of j ms)) ≡ count_from n ms
+sum_of_senders zero ms = refl
+sum_of_senders (suc n) ms = ap (λ (x : ℕ). x + length (messages_of n ms)) (sum_of_senders n ms)
 
 module _ (members : MemberList) (room : ℕ) (joined : Joined) (plan : Plan) (told : AreTold plan room joined.nodes.items joined.logs.items joined.left.items) (circle_is : plan.circle.items ≡ circle_of members)
     (below : All (λ j. j < length joined.nodes.items) plan.circle.items) (mails : List Mail) (are : AreMailsOf joined plan.circle.items mails) where
@@ -66,6 +69,29 @@ module _ (members : MemberList) (room : ℕ) (joined : Joined) (plan : Plan) (to
         are_peers members plan circle_is j k (has_drawn plan room nodes logs left told v g l j k j_in k_in (omega (arith, some, many_is j k j_in k_in)))) in
         omega (arith, within, by_pairs)
 
+    -- how many messages of one the mailbox of another had left
+    abbrev rest_of : ℕ → ℕ → ℕ
+    rest_of j k = length (messages_of j (get_or left k l).items)
+
+    -- what the mails to one have left is what its mailbox had
+    all_left : (k : ℕ) → k < length nodes → names_left mails k ≤ length (get_or left k l).items
+    all_left k k_in =
+        let counts : Mail → ℕ = λ (m : Mail). cond (eqb m.to k) (length m.left.items) 0 in
+        let each : All (λ (m : Mail). counts m ≡ in_pair plan.circle.items rest_of k (pair_of m)) mails = λ x d x_in.
+        let m : Mail = get_or mails x d in
+        let t = are.each x d x_in in
+        let names = names_in (get_or nodes m.from v) in
+        let size : length m.left.items ≡ rest_of m.from m.to =
+        ap length (t.mail v g l).left ∙ length-map (messages_of m.from (get_or left m.to l).items) (λ (n : Message). get_or names n.number []) in
+        ap (λ (n : ℕ). cond (eqb m.to k) n 0) size in
+        let by_pairs : names_left mails k ≡ sum_by (in_pair plan.circle.items rest_of k) (pairs_in plan.circle.items) =
+        sums_same counts (λ (m : Mail). in_pair plan.circle.items rest_of k (pair_of m)) mails each
+        ∙ (sym (sum_of_map (in_pair plan.circle.items rest_of k) pair_of mails) ∙ ap (sum_by (in_pair plan.circle.items rest_of k)) are.pairs) in
+        let within = sum_in_all plan.circle.items rest_of k (length nodes) (circle_rises members plan.circle.items circle_is) below in
+        let of_members : AreFrom (length nodes) (get_or left k l).items =
+        all_back (λ (m : Message). m.from < length nodes) (get_or logs k g).intake.taken.items (get_or left k l).items (told.known k g l k_in) in
+        omega (arith, within, by_pairs, sum_of_senders (length nodes) (get_or left k l).items, count_all (length nodes) (get_or left k l).items of_members)
+
     mail_is : (x : ℕ) (m : Mail) → x < length mails → m ≡ get_or mails x m → IsMail plan room mails (get_or nodes m.from v) (get_or logs m.from g).idle m
     mail_is x m x_in m_is =
         let t = subst (λ (n : Mail). IsMailIn nodes logs left n) (sym m_is) (are.each x m x_in) in
@@ -81,6 +107,7 @@ module _ (members : MemberList) (room : ℕ) (joined : Joined) (plan : Plan) (to
           full = λ often.
               let held = told.full m.from m.to v g t.from t.to (omega (arith, often, told_mail.full)) in
               omega (arith, held, all_sent m.to t.to);
+          few = omega (arith, all_left m.to t.to, told.few m.to l t.to);
         }
 
   pub are_mails : (idle : List ℕ) → idle ≡ map (λ (h : Log). h.idle) logs → AreMails plan room nodes idle mails

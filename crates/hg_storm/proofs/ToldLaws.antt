@@ -48,6 +48,7 @@ use Rattle.hg_storm.proofs.FateLaws.{take_later}
 use Rattle.hg_storm.proofs.MadeLaws.{is_made_in, made_front}
 use Rattle.hg_storm.proofs.ThreadLaws.{AreJoined, IsDone, absorbed_at, done_at, news_count}
 use Rattle.hg_storm.proofs.DueLaws.{due_later, idle_later, then_same}
+use Rattle.hg_storm.proofs.TurnRowLaws.{all_turned}
 
 -- ---- the rows of a node's own member are those that its history made
 
@@ -247,6 +248,7 @@ module _ (plan : Plan) (mails : List MailboxView) (k : ℕ) (p : SharedNode Secr
     turns = record {
       start = sym its_end.start;
       rows = rows_and_idle;
+      made = all_turned p (turns_of plan k) j.desk.seat node from_none its_end done.stands.seat.within done.stands.turned;
       causes = idle_later (node_at p.start j.desk.seat.seen) (node_at p.start node.history) refl its_end.later 0 0 (turns_of plan k) j.desk.log.idle done.stands.idle;
     };
     fates = fates_last Secrets accepts_by p j.desk.seat node j.desk.log.intake.taken.items j.desk.log.intake.refused.items from_none its_end done.stands.fates;
@@ -304,7 +306,7 @@ sum_same (suc n) f g same = λ i. sum_same n f g (λ j low. same j (omega (arith
 
 module _ {Z : Type 0} (plan : Plan) (room : ℕ) (mails : List MailboxView) (nodes ends : List (NodeView Secrets)) (places : List (SharedNode Secrets)) (firsts lasts : List (SeatView Secrets)) (olds news : List Job)
     (masters : List PortView) (logs : List Log) (left : List (Vec Message Z)) (none : All (λ (v : NodeView Secrets). v.history ≡ []) nodes) (rooms : HaveRoom room mails)
-    (joined : AreJoined plan mails nodes places firsts olds news) (absorbed : AreAbsorbed mails places news masters lasts logs) (takes : TakeOut mails masters) (emptied : EmptyAll masters left) (whole : AreWhole places lasts ends) where
+    (joined : AreJoined plan mails nodes places firsts olds news) (absorbed : AreAbsorbed mails places news masters lasts logs) (takes : TakeOut mails masters) (emptied : EmptyAll mails masters left) (whole : AreWhole places lasts ends) where
   jobs_count : length news ≡ length ends
   jobs_count = omega (arith, news_count plan mails nodes places firsts olds news joined, joined.seats.count, whole.shared_count)
 
@@ -374,6 +376,12 @@ module _ {Z : Type 0} (plan : Plan) (room : ℕ) (mails : List MailboxView) (nod
     known_told : (l : Vec Message Z) → AreFrom (length ends) ((get_or logs k g).intake.taken.items ++ (get_or left k l).items)
     known_told l = subst (λ (x : ℕ × Log). AreFrom x.0 (x.1.intake.taken.items ++ (get_or left k l).items)) (λ i. (mails_count i, log_is k g (some_job j j_in) k_in i)) (rest.known k l taker_in)
 
+    few_told : (l : Vec Message Z) → length (get_or left k l).items ≤ room
+    few_told l =
+        let m : MailboxView = some_of mails k taker_in in
+        let fits : (get_or mails k m).room ≡ room = rooms k m taker_in in
+        omega (arith, rest.few k l m taker_in, fits)
+
     full_told : 0 < (dispatch_to (get_or logs j g) k).full → room ≤ put_to (tale_told ends logs v g) (length ends) k
     full_told often =
         let m : MailboxView = some_of mails k taker_in in
@@ -394,6 +402,7 @@ module _ {Z : Type 0} (plan : Plan) (room : ℕ) (mails : List MailboxView) (nod
         (sent_at j (some_place j j_in) v (some_job j j_in) j_in k (omega (arith, k_in, mails_count)));
     mail = λ j k v g l j_in k_in. mail_told j k v g j_in k_in l;
     known = λ k g l k_in. first_of _ ends (omega (arith, k_in)) (λ v. known_told k k v g k_in k_in l);
+    few = λ k l k_in. few_told k k (some_of ends k k_in) (some_job k k_in).desk.log k_in k_in l;
     full = λ j k v g j_in k_in often. full_told j k v g j_in k_in often;
     each = λ k v g inside. (
       get_or places k (some_place k inside),

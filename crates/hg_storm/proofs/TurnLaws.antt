@@ -36,6 +36,7 @@ use Rattle.hg_storm.proofs.MadeLaws.{came_below, from_past, made_whole, next_beg
 use Rattle.hg_storm.proofs.SendLaws.{due_least, due_most, rows_longer, sent_later}
 use Rattle.hg_storm.proofs.DueLaws.{counted_on, due_later, due_next, due_now, due_still, ended_on, idle_later, idle_next}
 use Rattle.hg_storm.proofs.NextLaws.{ends_now, idle_now, rows_after, some_rows}
+use Rattle.hg_storm.proofs.TurnRowLaws.{turned_more, turned_on}
 
 -- what was sent, once the node has more rows
 
@@ -175,6 +176,8 @@ module _ (plan : Plan) (place : ℕ) (mails : List MailboxView) (p : SharedNode 
     room = old.room;
     some = λ _. some_rows p t u (made + 1) has.answer has.next old.room;
     rows = rows_now;
+    turned = turned_more p made t u has.answer has.next below
+        (turned_on p made s t still.seen (came_below s.seen log.intake.taken.items s.mine old.fates.came) old.turned no_row);
     idle = idle_all;
     ended = λ _. ended_now;
     dues = λ k d drew.
@@ -269,6 +272,7 @@ serves_none plan place mails p drawn made me log s ports inbox none old =
       room = old.room;
       some = old.some;
       rows = old.rows;
+      turned = old.turned;
       idle = old.idle;
       ended = old.ended;
       dues = λ k d drew. absurd (omega (arith, drew.draws.others, none));
@@ -348,6 +352,7 @@ module _ (plan : Plan) (place : ℕ) (mails : List MailboxView) (p : SharedNode 
     room = old.room;
     some = λ some. omega (arith, old.some some, rows_longer p s t still.seen);
     rows = rw idle (ap (λ (n : ℕ). n + log.idle) (no_row_more s t still.seen adds_none) ∙ old.rows);
+    turned = turned_on p (drawn + 1) s t still.seen low_before old.turned adds_none;
     idle = rw idle (idle_later (node_at p.start s.seen) sent_after refl still.seen 0 0 (drawn + 1) log.idle old.idle);
     ended = rw idle (λ _. ended_on p s t still.seen mine low_before (drawn + 1) log.idle was_ended);
     dues = rw (dispatches, idle) due_to;

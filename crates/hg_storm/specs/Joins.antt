@@ -7,7 +7,7 @@ use Rattle.hg_storm.specs.Keeping.{Secrets}
 use Rattle.hg_mail.specs.declared.message.Message.{Message}
 use Rattle.hg_mail.specs.declared.view.Sender.{Sender}
 use Rattle.hg_mail.specs.Count.{all_parts}
-use Rattle.hg_mail.specs.Messages.{AreFrom, IsEmptied, after_taking, messages_of, sender}
+use Rattle.hg_mail.specs.Messages.{AreFrom, IsEmptied, IsWhole, after_taking, messages_of, sender}
 use Rattle.hg_mail.specs.Mailboxes.{IsPortOf, MailboxView, PortView, joined}
 use Rattle.hg_board.specs.Seats.{IsOf, SharedNode, SeatView}
 use Rattle.hg_crowd.specs.Workers.{AllAbsorb}
@@ -19,7 +19,7 @@ use Rattle.hg_storm.specs.declared.desk.Job.{Job}
 use Rattle.hg_storm.specs.Sending.{bytes_seen, messages_from}
 use Rattle.hg_storm.specs.Drawing.{HasDrawn, times_drawn}
 use Rattle.hg_storm.specs.Ends.{EndsWithFates}
-use Rattle.hg_storm.specs.Turning.{AreIdle, HadRows, IsCounted, Stands, WasDue, own_rows, rows_by}
+use Rattle.hg_storm.specs.Turning.{AreIdle, AreTurnRows, HadRows, IsCounted, Stands, WasDue, own_rows, rows_by}
 use Rattle.hg_storm.specs.Threads.{Pairs, no_dispatch, place_of, turns_of}
 
 -- what members did, by their numbers: what each put into each one's mailbox, and how often that was full; and what each took
@@ -106,35 +106,38 @@ pub record HaveTurned (mails : List MailboxView) (places : List (SharedNode Secr
   pub places_count : length places ≡ length mails
   pub each : (k : ℕ) (p : SharedNode Secrets) (d : Job) → k < length jobs → HasTurned plan mails (get_or places k p) k (get_or jobs k d)
 
--- by this port all was taken out: what was put through it is what was taken before, and then this. Each message is of a sender
--- whose port it gave out
-pub record Empties (q : PortView) (left : List Message) : Type 0 where
+-- by this port of a mailbox all was taken out: what was put through it is what was taken before, and then this. Each message is
+-- of a sender whose port it gave out; where all these are back, no more is left than the mailbox has room for
+pub record Empties (m : MailboxView) (q : PortView) (left : List Message) : Type 0 where
   pub all : IsEmptied (after_taking q.view left)
   pub known : q.view.gives ≡ true → AreFrom q.view.next (q.view.taken ++ left)
   pub whole : q.count.parts ≡ all_parts → q.count.seen ≤ q.count.mine
+  pub few : IsWhole q.view → length left ≤ m.room
 
 -- each of these ports takes out
 abbrev pub TakeOut : List MailboxView → List PortView → Type 0
 TakeOut mails masters = Pairs (λ k m q. IsPortOf m q × (q.view.takes ≡ true)) mails masters
 
-abbrev pub EmptyAll : {Z : Type 0} → List PortView → List (Vec Message Z) → Type 0
-EmptyAll {Z} masters left = Pairs (λ (k : ℕ) (q : PortView) (l : Vec Message Z). Empties q l.items) masters left
+abbrev pub EmptyAll : {Z : Type 0} → List MailboxView → List PortView → List (Vec Message Z) → Type 0
+EmptyAll {Z} mails masters left = Pairs (λ (k : ℕ) (q : PortView) (l : Vec Message Z). (m : MailboxView) → Empties (get_or mails k m) q l.items) masters left
 
--- of each member what it put into each mailbox is what was taken of it and what is left, and nobody else put anything in; where
--- one was full, as many messages were put in as it has room for
+-- of each member what it put into each mailbox is what was taken of it and what is left, and nobody else put anything in; no more
+-- is left than one has room for, and where one was full, as many messages were put in
 pub record AreEmptied {Z : Type 0} (tale : Tale) (n : ℕ) (mails : List MailboxView) (left : List (Vec Message Z)) : Type 0 where
   pub count : length left ≡ length mails
   pub mail : (j k : ℕ) (l : Vec Message Z) → j < n → k < length mails → tale.put j k ≡ messages_of j (tale.taken k) ++ messages_of j (get_or left k l).items
   pub known : (k : ℕ) (l : Vec Message Z) → k < length mails → AreFrom n (tale.taken k ++ (get_or left k l).items)
+  pub few : (k : ℕ) (l : Vec Message Z) (m : MailboxView) → k < length mails → length (get_or left k l).items ≤ (get_or mails k m).room
   pub full : (j k : ℕ) (m : MailboxView) → j < n → k < length mails → 0 < tale.full j k → (get_or mails k m).room ≤ put_to tale n k
 
 -- ---- what all members did, by their numbers, and their nodes then
 
--- of one member, whose node is this: its own rows and its turns that made none are together as many as all its turns, and each
--- of the latter has its cause
+-- of one member, whose node is this: its own rows, each of which is a turn's, and its turns that made none are together as many as
+-- all its turns, and each of the latter has its cause
 pub record CountsTurns (plan : Plan) (k : ℕ) (p : SharedNode Secrets) (node : NodeView Secrets) (idle : ℕ) : Type 0 where
   pub start : p.start.start ≡ node.start
   pub rows : rows_by node.start.own (node_rows node) + idle ≡ turns_of plan k
+  pub made : AreTurnRows node (turns_of plan k)
   pub causes : AreIdle p node.history (turns_of plan k) idle
 
 -- so its log tells, and what it took is held or was refused
@@ -172,6 +175,7 @@ pub record AreTold {Z : Type 0} (plan : Plan) (room : ℕ) (nodes : List (NodeVi
   pub mail : (j k : ℕ) (v : NodeView Secrets) (g : Log) (l : Vec Message Z) → j < length nodes → k < length nodes →
       (tale_told nodes logs v g).put j k ≡ messages_of j (get_or logs k g).intake.taken.items ++ messages_of j (get_or left k l).items
   pub known : (k : ℕ) (g : Log) (l : Vec Message Z) → k < length nodes → AreFrom (length nodes) ((get_or logs k g).intake.taken.items ++ (get_or left k l).items)
+  pub few : (k : ℕ) (l : Vec Message Z) → k < length nodes → length (get_or left k l).items ≤ room
   pub full : (j k : ℕ) (v : NodeView Secrets) (g : Log) → j < length nodes → k < length nodes → 0 < (dispatch_to (get_or logs j g) k).full → room ≤ put_to (tale_told nodes logs v g) (length nodes) k
   pub each : (k : ℕ) (v : NodeView Secrets) (g : Log) → k < length nodes → (p : SharedNode Secrets) × IsTold plan k p (get_or nodes k v) (get_or logs k g)
 

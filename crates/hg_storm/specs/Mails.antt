@@ -36,19 +36,24 @@ pairs_in circle = flat_map (pairs_from circle) circle
 abbrev pub names_to : List Mail → ℕ → ℕ
 names_to mails to = sum_by (λ (m : Mail). cond (m.to == to) (length m.sent.items) 0) mails
 
+-- how many its mailbox had left
+abbrev pub names_left : List Mail → ℕ → ℕ
+names_left mails to = sum_by (λ (m : Mail). cond (m.to == to) (length m.left.items) 0) mails
+
 -- what a mail tells of the rows that were sent
 abbrev pub dispatch_of : Mail → Dispatch
 dispatch_of m = record { sent = length m.sent.items; full = m.full; due = m.due }
 
 -- The first rows of the sender's node were sent, all that were due unless the other's mailbox was full; the other took the first
--- of them, and its mailbox had left the others. Where it was full, all mails to it have as many names as it has room for. So many
--- of the sender's turns made no event.
+-- of them, and its mailbox had left the others. Of all mails to the other no more names are left than its mailbox has room for, and
+-- where that was full, they have as many. So many of the sender's turns made no event.
 pub record IsMail (plan : Plan) (room : ℕ) (mails : List Mail) (v : NodeView Secrets) (idle : ℕ) (m : Mail) : Type 0 where
   pub sent : m.sent.items ≡ take (length m.sent.items) (names_in v)
   pub once : AreOnce m.sent.items
   pub parts : m.sent.items ≡ m.taken.items ++ m.left.items
   pub due : IsSentTo plan m.from m.to v idle (dispatch_of m)
   pub full : 0 < m.full → room ≤ names_to mails m.to
+  pub few : names_left mails m.to ≤ room
 
 -- there is one mail for each two different ones of the members that have nodes in each direction
 pub record AreMails (plan : Plan) (room : ℕ) (nodes : List (NodeView Secrets)) (idle : List ℕ) (mails : List Mail) : Type 0 where

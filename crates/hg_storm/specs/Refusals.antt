@@ -65,9 +65,9 @@ pub record IsRefusal (mails : List Mail) (to : ℕ) (p : SharedNode Secrets) (hi
   pub verdict : put_answer accepts_by (node_at p.start (take r.at history)) (spelling row) ≡ Refused r.why
   pub before : (x : ℕ) (name : List ℕ) → x < number → slice_get mail.taken.items x ≡ Some name → HasOrRefused p (take r.at history) refused r.from name
 
--- Of one member, whose node is this: its own rows and its turns that made none are as many as all its turns; of the rows that it took
--- of each other's, each is held or was refused; each row that it refused is told, once; and each that it took is one that came by a
--- mail.
+-- Of one member, whose node is this: its own rows, each of which is a turn's, and its turns that made none are as many as all its
+-- turns; of the rows that it took of each other's, each is held or was refused; each row that it refused is told, once; and each that
+-- it took is one that came by a mail.
 pub record HasTakenNames (plan : Plan) (nodes : List (NodeView Secrets)) (mails : List Mail) (k : ℕ) (p : SharedNode Secrets) (node : NodeView Secrets) (idle : ℕ) (refused : List Refusal) : Type 0 where
   pub turns : CountsTurns plan k p node idle
   pub taken : All (λ (m : Mail). m.to ≡ k → All (HasOrRefused p node.history refused m.from) m.taken.items) mails

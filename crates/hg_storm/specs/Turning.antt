@@ -1,5 +1,5 @@
 -- A member's turns: what it has sent, taken and made after so many of them
-use Rattle.std.specs.Prelude.{ℕ, zero, suc, ◌≡◌, ◌+◌, ◌<◌, ◌≤◌, ◌^◌, ◌⊎◌, ◌==◌, ⊤, Bool, true, false, List, length, take, get_or, slice_get, count_by, Option, Some, None}
+use Rattle.std.specs.Prelude.{ℕ, zero, suc, ◌≡◌, [], ◌+◌, ◌<◌, ◌≤◌, ◌^◌, ◌⊎◌, ◌==◌, ⊤, Bool, true, false, List, length, take, get_or, slice_get, count_by, Option, Some, None}
 use Rattle.std.specs.List.{AllByRecursion}
 use Rattle.hg_model.specs.declared.row.Row.{Row}
 use Rattle.hg_life.specs.declared.answers.MakeAnswer.{MakeAnswer}
@@ -8,10 +8,11 @@ use Rattle.hg_life.specs.History.{Change}
 use Rattle.hg_life.specs.History.Change.{Made}
 use Rattle.hg_life.specs.NodeView.{NodeView, node_rows}
 use Rattle.hg_life.specs.Signing.{accepts_by}
-use Rattle.hg_node.specs.Next.{MakesNext}
+use Rattle.hg_life.specs.Verdict.{last_name, parents_on}
+use Rattle.hg_node.specs.Next.{MakesNext, next_others}
 use Rattle.hg_mail.specs.Count.{one_part}
 use Rattle.hg_mail.specs.Mailboxes.{MailboxView, PortView}
-use Rattle.hg_board.specs.Positions.{AreBelow}
+use Rattle.hg_board.specs.Positions.{AreBelow, times}
 use Rattle.hg_board.specs.Table.{node_at}
 use Rattle.hg_board.specs.Seats.{SharedNode, SeatView}
 use Rattle.hg_board.specs.Calls.{SeatMakesNext}
@@ -80,6 +81,26 @@ pub record IsMadeAt (v : NodeView Secrets) (time at : ℕ) : Type 0 where
   pub last : ℕ
   pub first : at ≡ suc last
   pub made : slice_get v.history last ≡ Some (Made row)
+
+-- a row that the node makes at one of its first turns: its next event, which is its first one or stands on its last row and on
+-- the last row by another member, without payload, and the time is the turn's number, from 1
+pub record IsTurnRow (v : NodeView Secrets) (turns : ℕ) (row : Row) : Type 0 where
+  pub others : List (List ℕ)
+  pub next : next_others v ≡ Some others
+  pub parents : row.parents ≡ parents_on (last_name v.start.own (node_rows v)) others
+  pub payload : row.payload ≡ []
+  pub first : 0 < row.time
+  pub last : row.time ≤ turns
+
+-- all rows that a node made are such rows, each where its history made it, and their times rise
+pub record AreTurnRows (v : NodeView Secrets) (turns : ℕ) : Type 0 where
+  pub each : (q : ℕ) (row : Row) → slice_get v.history q ≡ Some (Made row) → IsTurnRow (node_then v q) turns row
+  pub rising : (q r : ℕ) (a b : Row) → q < r → slice_get v.history q ≡ Some (Made a) → slice_get v.history r ≡ Some (Made b) → a.time < b.time
+
+-- so are those that were made through a seat
+pub record HasTurnRows (p : SharedNode Secrets) (turns : ℕ) (s : SeatView Secrets) : Type 0 where
+  pub each : (q : ℕ) (row : Row) → 0 < times q s.mine → slice_get s.seen q ≡ Some (Made row) → IsTurnRow (node_at p.start (take q s.seen)) turns row
+  pub rising : (q r : ℕ) (a b : Row) → 0 < times q s.mine → 0 < times r s.mine → q < r → slice_get s.seen q ≡ Some (Made a) → slice_get s.seen r ≡ Some (Made b) → a.time < b.time
 
 -- After so many changes the turns up to this one have made their rows or nothing, and no later turn has. The last of these
 -- turns did so just then. The rows that were made by then and the idle ones of these turns are together as many as the turns,
@@ -161,6 +182,7 @@ pub record Standing (plan : Plan) (place : ℕ) (mails : List MailboxView) (p : 
   pub room : 0 < p.start.start.limit
   pub some : 0 < made → 0 < length (bytes_seen p s)
   pub rows : rows_made s + log.idle ≡ made
+  pub turned : HasTurnRows p made s
   pub idle : AreIdle p s.seen made log.idle
   pub ended : 0 < made → HasEnded p s made log.idle
   pub dues : (k : ℕ) (d : Dispatch) → HasDrawn plan own place drawn k →

@@ -79,7 +79,7 @@ fn empty<R: Wait>(
 ) -> Result<Vec<Message>, Memory>
     requires of { IsPortOf mailbox.now port.old }
     requires takes { port.old.view.takes ≡ true }
-    ensures ok { IfOk result (λ left. Empties port.old left.items) }
+    ensures ok { IfOk result (λ left. Empties mailbox.now port.old left.items) }
     ensures whole { port.old.count.parts ≡ all_parts → port.old.count.seen ≤ port.old.count.mine }
 {
     mailbox.count(port);
@@ -94,7 +94,7 @@ pub(crate) fn empty_all<R: Wait>(
     masters: &mut Vec<Port>,
 ) -> Result<Vec<Vec<Message>>, Memory>
     requires { TakeOut mailboxes.now masters.old.items }
-    ensures { IfOk result (λ left. EmptyAll masters.old.items left.items) }
+    ensures { IfOk result (λ left. EmptyAll mailboxes.now masters.old.items left.items) }
 {
     let mut left = Vec::new(alloc);
     'mailboxes: for k in 0..mailboxes.len() {

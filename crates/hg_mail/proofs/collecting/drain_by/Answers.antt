@@ -1,9 +1,9 @@
-use Rattle.std.proofs.Common.{◌≡◌, true, sym, ap, ◌∙◌, subst}
+use Rattle.std.proofs.Common.{◌≡◌, true, arith, sym, ap, ◌∙◌, subst}
 use Rattle.crossbeam_queue.specs.Passes.{view}
 use Rattle.hg_mail.specs.declared.view.View.{View}
-use Rattle.hg_mail.specs.Messages.{IsEmptied}
+use Rattle.hg_mail.specs.Messages.{IsEmptied, after_taking}
 use Rattle.hg_mail.specs.Rule.{HeldAt}
-use Rattle.hg_mail.proofs.MessageLaws.{emptied, learns, takes}
+use Rattle.hg_mail.proofs.MessageLaws.{all_held, emptied, learns, takes}
 use Rattle.hg_mail.proofs.collecting.drain_by.Goals as goal
 
 pub pop_as-requires-clause-rule : goal.pop_as-requires-clause-rule
@@ -16,3 +16,13 @@ pub returns-in-None-pop_as-clause-whole : goal.returns-in-None-pop_as-clause-who
 returns-in-None-pop_as-clause-whole g c =
     let may : (view c.loop.pass).takes ≡ true = ap (λ (v : View). v.takes) c.loop.invariant.view ∙ c.requires.takes in
     subst IsEmptied (sym c.in-None-pop_as.ensures.rule.0) (emptied (view c.loop.pass) may c.in-None-pop_as.ensures.rule.1)
+
+pub len_as-requires-clause-rule : goal.len_as-requires-clause-rule
+len_as-requires-clause-rule g c = learns _ _
+
+pub returns-in-None-pop_as-clause-room : goal.returns-in-None-pop_as-clause-room
+returns-in-None-pop_as-clause-room g c =
+    let first = c.len_as.ensures.rule in
+    λ whole.
+    let last : HeldAt (after_taking (view c.args.pass.now) c.loop.left.items) 0 = subst (λ (v : View). HeldAt v 0) c.loop.invariant.view c.in-None-pop_as.ensures.rule.1 in
+    omega (arith, first.0, all_held (view c.args.pass.now) c.loop.left.items c.len_as.result whole first.1 last)

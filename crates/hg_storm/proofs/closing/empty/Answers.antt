@@ -3,4 +3,4 @@ use Rattle.hg_storm.proofs.closing.empty.Goals as goal
 
 pub returns-clause-ok : goal.returns-clause-ok
 returns-clause-ok g c =
-    empties c.args.port.now c.count.new.port c.drain.new.port c.count.result c.drain.result c.count.ensures.port c.count.ensures.whole c.requires.takes c.drain.ensures.port c.drain.ensures.none c.drain.ensures.whole
+    empties c.args.mailbox.now c.args.port.now c.count.new.port c.drain.new.port c.count.result c.drain.result c.count.ensures.port c.count.ensures.whole c.requires.takes c.drain.ensures.port c.drain.ensures.none c.drain.ensures.whole c.drain.ensures.room

@@ -2,11 +2,11 @@ use Rattle.std.proofs.Common.{◌≡◌, ℕ, ◌+◌, List, ◌∷◌, length, 
 use Rattle.std.proofs.lemmas.List.{length-take-le}
 use Rattle.hg_mail.specs.Mailboxes.{IsPosted}
 use Rattle.hg_storm.specs.Sending.{Sends}
-use Rattle.hg_storm.proofs.SendLaws.{drop_next, drop_some, sends_one, still_sender, take_next}
+use Rattle.hg_storm.proofs.SendLaws.{drop_next, drop_some, its_port, sends_one, still_sender, take_next}
 use Rattle.hg_storm.proofs.sending.send_piece.Goals as goal
 
 pub post-requires-clause-sender : goal.post-requires-clause-sender
-post-requires-clause-sender g c = still_sender _ _ _ _ _ c.rows.invariant.sends c.requires.sender
+post-requires-clause-sender g c = its_port _ _ (still_sender _ _ _ _ _ c.rows.invariant.sends c.requires.sender)
 
 pub rows-preserved : goal.rows-preserved
 rows-preserved g c =
