@@ -131,3 +131,19 @@ pub(crate) fn play_lines(game: &Game, world: &mut World, lines: &[Line]) -> Resu
     }
     Ok(tape)
 }
+
+/// The same, and nothing is kept of what they print.
+pub(crate) fn play_quietly(
+    game: &Game,
+    world: &mut World,
+    lines: &[Line],
+) -> Result<(), Memory>
+    requires { All (IsLineBelow (length world.old.sites)) lines.now }
+{
+    let mut tape = Tape::new(game.alloc);
+    for line in lines {
+        play_line(game, world, &mut tape, line)?;
+        tape.clear();
+    }
+    Ok(())
+}

@@ -9,19 +9,21 @@ ghost use Rattle.hg_life.specs.Workers.{most_workers};
 ghost use Rattle.hg_play.specs.Nodes.{Closes};
 ghost use Rattle.hg_play.specs.Play.{IsSafePlay, end_steps, end_steps_of, play, played_world, summary};
 ghost use Rattle.hg_play.specs.Sites.{AreMadeWith, BeganWith};
+ghost use Rattle.hg_outcome.specs.Summary.{summary_of};
 
 use crate::band::Band;
 use crate::batch::play_batches;
 use crate::blocks::push_blocks;
 use crate::game::Game;
-use crate::lines::play_lines;
+use crate::lines::{play_lines, play_quietly};
 use crate::outcomes::names;
+use crate::summaries::summary_of;
 use crate::tape::Tape;
 use hg_board::Crew;
 use hg_io::Gate;
 use hg_life::Members;
 use hg_model::{Items, Member, Memory};
-use hg_outcome::Outcome;
+use hg_outcome::{Outcome, Summary};
 use hg_script::Line;
 use hg_sign::MacTable;
 use hg_world::World;
@@ -128,7 +130,30 @@ pub fn play<R: Threads + Wait + Sync, C: Crew + Sync, G: Gate + Sync>(
     Ok(outcome)
 }
 
-/// The same with the names and the last blocks alone.
+/// Plays the lines as `play_all` does. Without workers nothing is kept of what they print.
+fn play_all_quietly<R: Threads + Wait + Sync, C: Crew + Sync, G: Gate + Sync>(
+    rt: &R,
+    game: &Game,
+    lines: &[Line],
+    workers: u32,
+    crew: &C,
+    gate: &G,
+) -> Result<World, Memory>
+    requires workers { workers ≤ most_workers }
+    requires lines { All (IsLine game.now.members.now workers) lines.now }
+{
+    if workers > 0 {
+        let (world, _) = play_all(rt, game, lines, workers, crew, gate)?;
+        return Ok(world);
+    }
+    let mut world = World::new(game.alloc, game.members)?;
+    world.is_world();
+    play_quietly(game, &mut world, lines)?;
+    Ok(world)
+}
+
+/// What is told of the last blocks of the same play. The nodes come along, so that the caller may let them be: to free them
+/// takes some time.
 pub fn summary<R: Threads + Wait + Sync, C: Crew + Sync, G: Gate + Sync>(
     rt: &R,
     alloc: Global,
@@ -137,10 +162,10 @@ pub fn summary<R: Threads + Wait + Sync, C: Crew + Sync, G: Gate + Sync>(
     workers: u32,
     crew: &C,
     gate: &G,
-) -> Result<Outcome, Memory>
+) -> Result<(Summary, World), Memory>
     requires workers { workers ≤ most_workers }
     requires lines { All (IsLine members.now workers) lines.now }
-    ensures outcome { IfOk result (λ outcome. outcome ≡ summary members.now lines.now) }
+    ensures outcome { IfOk result (λ r. r.0 ≡ summary_of (summary members.now lines.now)) }
     ensures safe { OnOk result (IsSafePlay members.now lines.now) }
 {
     let keys = MacTable::new(alloc, members)?;
@@ -149,9 +174,10 @@ pub fn summary<R: Threads + Wait + Sync, C: Crew + Sync, G: Gate + Sync>(
         members,
         keys: &keys,
     };
-    let (world, _) = play_all(rt, &game, lines, workers, crew, gate)?;
-    let outcome = closed(&game, world, Tape::new(alloc))?;
-    Ok(outcome)
+    let mut world = play_all_quietly(rt, &game, lines, workers, crew, gate)?;
+    settle_all(members, &mut world)?;
+    let summary = summary_of(alloc, members, &world)?;
+    Ok((summary, world))
 }
 
 /// The world with which `play` ends without workers: the lines are played over the members' nodes, which are settled then.

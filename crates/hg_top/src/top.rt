@@ -21,6 +21,7 @@ use hg_play::{play, summary};
 use hg_report::{summary_of, text_of};
 use hg_workers::Voters;
 use std::alloc::Global;
+use std::mem::forget;
 use std::sync::Wait;
 use std::thread::Threads;
 
@@ -96,7 +97,12 @@ fn make<R: Threads + Wait + Sync, K: Sink, G: Gate + Sync>(
     };
     let voters = Voters::new(gate);
     match summary(rt, alloc, &list, lines.as_slice(), workers, &voters, gate) {
-        Ok(outcome) => status_of(summary_of(&outcome, out)),
+        Ok((summary, world)) => {
+            let status = status_of(summary_of(&summary, out));
+            forget(world);
+            forget(lines);
+            status
+        }
         Err(Memory) => Status::Memory,
     }
 }
