@@ -24,5 +24,5 @@ mod making;
 mod members;
 
 pub use draws::Draws;
-pub use lines::peer_of;
+pub use lines::{MadeLines, peer_of};
 pub use making::generate;

@@ -10,7 +10,7 @@ use crate::nodes::Nodes;
 use crate::tape::Tape;
 use hg_model::{Bytes, Memory, Share};
 use hg_outcome::Printed;
-use hg_script::{Action, Line, Part, Source};
+use hg_script::{Action, Line, LineSource, Part, Source};
 use hg_world::World;
 
 /// The bytes from a source.
@@ -132,17 +132,19 @@ pub(crate) fn play_lines(game: &Game, world: &mut World, lines: &[Line]) -> Resu
     Ok(tape)
 }
 
-/// The same, and nothing is kept of what they print.
-pub(crate) fn play_quietly(
+/// Plays the lines from a source over a world, one after the other, and keeps neither them nor what they print.
+pub(crate) fn play_quietly<L: LineSource>(
     game: &Game,
     world: &mut World,
-    lines: &[Line],
+    lines: &mut L,
 ) -> Result<(), Memory>
-    requires { All (IsLineBelow (length world.old.sites)) lines.now }
+    requires { All (IsLineBelow (length world.old.sites)) (L.rest lines.old) }
 {
     let mut tape = Tape::new(game.alloc);
-    for line in lines {
-        play_line(game, world, &mut tape, line)?;
+    let count = lines.left();
+    for _ in 0..count {
+        let line = lines.next_line()?;
+        play_line(game, world, &mut tape, &line)?;
         tape.clear();
     }
     Ok(())

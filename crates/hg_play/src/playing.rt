@@ -24,7 +24,7 @@ use hg_io::Gate;
 use hg_life::Members;
 use hg_model::{Items, Member, Memory};
 use hg_outcome::{Outcome, Summary};
-use hg_script::Line;
+use hg_script::{Line, LineSource, all_lines};
 use hg_sign::MacTable;
 use hg_world::World;
 use std::alloc::Global;
@@ -131,19 +131,20 @@ pub fn play<R: Threads + Wait + Sync, C: Crew + Sync, G: Gate + Sync>(
 }
 
 /// Plays the lines as `play_all` does. Without workers nothing is kept of what they print.
-fn play_all_quietly<R: Threads + Wait + Sync, C: Crew + Sync, G: Gate + Sync>(
+fn play_all_quietly<R: Threads + Wait + Sync, C: Crew + Sync, G: Gate + Sync, L: LineSource>(
     rt: &R,
     game: &Game,
-    lines: &[Line],
+    lines: &mut L,
     workers: u32,
     crew: &C,
     gate: &G,
 ) -> Result<World, Memory>
     requires workers { workers ≤ most_workers }
-    requires lines { All (IsLine game.now.members.now workers) lines.now }
+    requires lines { All (IsLine game.now.members.now workers) (L.rest lines.old) }
 {
     if workers > 0 {
-        let (world, _) = play_all(rt, game, lines, workers, crew, gate)?;
+        let all = all_lines(game.alloc, lines)?;
+        let (world, _) = play_all(rt, game, all.as_slice(), workers, crew, gate)?;
         return Ok(world);
     }
     let mut world = World::new(game.alloc, game.members)?;
@@ -154,19 +155,19 @@ fn play_all_quietly<R: Threads + Wait + Sync, C: Crew + Sync, G: Gate + Sync>(
 
 /// What is told of the last blocks of the same play. The nodes come along, so that the caller may let them be: to free them
 /// takes some time.
-pub fn summary<R: Threads + Wait + Sync, C: Crew + Sync, G: Gate + Sync>(
+pub fn summary<R: Threads + Wait + Sync, C: Crew + Sync, G: Gate + Sync, L: LineSource>(
     rt: &R,
     alloc: Global,
     members: &Members,
-    lines: &[Line],
+    lines: &mut L,
     workers: u32,
     crew: &C,
     gate: &G,
 ) -> Result<(Summary, World), Memory>
     requires workers { workers ≤ most_workers }
-    requires lines { All (IsLine members.now workers) lines.now }
-    ensures outcome { IfOk result (λ r. r.0 ≡ summary_of (summary members.now lines.now)) }
-    ensures safe { OnOk result (IsSafePlay members.now lines.now) }
+    requires lines { All (IsLine members.now workers) (L.rest lines.old) }
+    ensures outcome { IfOk result (λ r. r.0 ≡ summary_of (summary members.now (L.rest lines.old))) }
+    ensures safe { OnOk result (IsSafePlay members.now (L.rest lines.old)) }
 {
     let keys = MacTable::new(alloc, members)?;
     let game = Game {

@@ -13,11 +13,9 @@ texts_left names texts i printed is lt =
     ap (printed_texts names) (first_left texts i printed lt)
     ∙ ap (λ p. printed_text names p ++ printed_texts names (drop (i + 1) texts)) (sym is)
 
-pub nodes_left : (names : List (List ℕ)) (nodes : List NodeSummary) (i : ℕ) (node : NodeSummary) → node ≡ get_or nodes i node → i < length nodes
-    → nodes_text names (drop i nodes) ≡ node_text names node ++ nodes_text names (drop (i + 1) nodes)
-nodes_left names nodes i node is lt =
-    ap (nodes_text names) (first_left nodes i node lt)
-    ∙ ap (λ n. node_text names n ++ nodes_text names (drop (i + 1) nodes)) (sym is)
+pub nodes_left : (names : List (List ℕ)) (nodes : List NodeSummary) (i : ℕ) (d : NodeSummary) → i < length nodes
+    → nodes_text names (drop i nodes) ≡ node_text names (get_or nodes i d) ++ nodes_text names (drop (i + 1) nodes)
+nodes_left names nodes i d lt = ap (nodes_text names) (first_left nodes i d lt)
 
 pub heads_left : (names : List (List ℕ)) (pieces : List Printed) (i : ℕ) (piece : Printed) → piece ≡ get_or pieces i piece → i < length pieces
     → pieces_heads names (drop i pieces) ≡ piece_head names piece ++ pieces_heads names (drop (i + 1) pieces)

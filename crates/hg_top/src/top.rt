@@ -91,16 +91,15 @@ fn make<R: Threads + Wait + Sync, K: Sink, G: Gate + Sync>(
     requires workers { workers ≤ 16 }
     ensures { WroteOn K.Sink out.old out.new (IsSummaryOf (made_run members lines seed workers)) result }
 {
-    let (list, lines) = match generate(alloc, seed, members, lines) {
+    let (list, mut lines) = match generate(alloc, seed, members, lines) {
         Ok(made) => made,
         Err(Memory) => return Status::Memory,
     };
     let voters = Voters::new(gate);
-    match summary(rt, alloc, &list, lines.as_slice(), workers, &voters, gate) {
+    match summary(rt, alloc, &list, &mut lines, workers, &voters, gate) {
         Ok((summary, world)) => {
             let status = status_of(summary_of(&summary, out));
             forget(world);
-            forget(lines);
             status
         }
         Err(Memory) => Status::Memory,
