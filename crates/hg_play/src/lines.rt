@@ -1,6 +1,7 @@
 ghost use Rattle.std.specs.Prelude.{◌≡◌, All, IfOk, OnOk, length};
 ghost use Rattle.hg_play.specs.Lines.{IsBelow, IsLineBelow, IsPartBelow, IsSourceBelow};
 ghost use Rattle.hg_play.specs.Nodes.{IsKept, MatchesSource, Plays, PlaysLine, PlaysLines, seen_alone};
+ghost use Rattle.hg_play.specs.Summaries.{PlaysQuietly};
 
 use crate::blocks::{kept_at, settled_at};
 use crate::game::Game;
@@ -139,6 +140,7 @@ pub(crate) fn play_quietly<L: LineSource>(
     lines: &mut L,
 ) -> Result<(), Memory>
     requires { All (IsLineBelow (length world.old.sites)) (L.rest lines.old) }
+    ensures { OnOk result (PlaysQuietly game.now.members.now (L.rest lines.old) world.old world.new) }
 {
     let mut tape = Tape::new(game.alloc);
     let count = lines.left();

@@ -9,6 +9,7 @@ ghost use Rattle.hg_life.specs.Workers.{most_workers};
 ghost use Rattle.hg_play.specs.Nodes.{Closes};
 ghost use Rattle.hg_play.specs.Play.{IsSafePlay, end_steps, end_steps_of, play, played_world, summary};
 ghost use Rattle.hg_play.specs.Sites.{AreMadeWith, BeganWith};
+ghost use Rattle.hg_play.specs.Summaries.{IsSettledNode, IsWorldOf, SettledBelow};
 ghost use Rattle.hg_outcome.specs.Summary.{summary_of};
 
 use crate::band::Band;
@@ -37,6 +38,7 @@ fn settle_at(members: &Members, world: &mut World, member: usize) -> Result<(), 
     requires few { member < 2 ^ 16 }
     ensures sites { length world.new.sites ≡ length world.old.sites }
     ensures ok { OnOk result (world.new ≡ after_steps world.old (end_steps_of members.now member)) }
+    ensures settled { OnOk result (IsSettledNode members.now member world.old world.new) }
 {
     if members.has_node(member as Member) {
         world.settle(member as Member)?;
@@ -47,7 +49,8 @@ fn settle_at(members: &Members, world: &mut World, member: usize) -> Result<(), 
 /// All nodes are settled, in the order of the members.
 fn settle_all(members: &Members, world: &mut World) -> Result<(), Memory>
     requires { length world.old.sites ≡ length members.now.entries }
-    ensures { OnOk result (world.new ≡ after_steps world.old (end_steps members.now (length members.now.entries))) }
+    ensures after { OnOk result (world.new ≡ after_steps world.old (end_steps members.now (length members.now.entries))) }
+    ensures settled { OnOk result (SettledBelow members.now (length members.now.entries) world.old world.new) }
 {
     for member in 0..members.count() as usize {
         settle_at(members, world, member)?;
@@ -141,6 +144,8 @@ fn play_all_quietly<R: Threads + Wait + Sync, C: Crew + Sync, G: Gate + Sync, L:
 ) -> Result<World, Memory>
     requires workers { workers ≤ most_workers }
     requires lines { All (IsLine game.now.members.now workers) (L.rest lines.old) }
+    ensures new { OnOk result (IsWorld (new_world game.now.members.now)) }
+    ensures played { IfOk result (IsWorldOf game.now.members.now (L.rest lines.old)) }
 {
     if workers > 0 {
         let all = all_lines(game.alloc, lines)?;
@@ -177,6 +182,7 @@ pub fn summary<R: Threads + Wait + Sync, C: Crew + Sync, G: Gate + Sync, L: Line
     };
     let mut world = play_all_quietly(rt, &game, lines, workers, crew, gate)?;
     settle_all(members, &mut world)?;
+    world.is_world();
     let summary = summary_of(alloc, members, &world)?;
     Ok((summary, world))
 }
