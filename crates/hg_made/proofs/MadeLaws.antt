@@ -80,7 +80,9 @@ first_lines_next seed n j = ap (first_lines seed n) (add-one j)
 
 -- the first lines, and so many behind them
 made_so_far : (seed n j k : ℕ) → (first_lines seed n j).lines ++ lines_from n (first_lines seed n j).state j k ≡ (first_lines seed n (j + k)).lines
-made_so_far seed n j zero = append-nil (first_lines seed n j).lines
+made_so_far seed n j zero =
+    let count : j ≡ j + 0 = omega arith in
+    append-nil (first_lines seed n j).lines ∙ ap (λ (i : ℕ). (first_lines seed n i).lines) count
 made_so_far seed n j (suc k) =
     let now = first_lines seed n j in
     let line = made_line n now.state j in

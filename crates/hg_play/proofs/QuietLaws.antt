@@ -1,5 +1,6 @@
 -- Lines that are played one after the other, and nothing is kept of what they print
-use Rattle.std.proofs.Common.{◌≡◌, ◌∙◌, ◌+◌, ◌<◌, ℕ, List, [], length, take, get_or, sym, refl, ap, ap₂, subst}
+use Rattle.std.proofs.Common.{◌≡◌, ◌∙◌, ◌+◌, ◌<◌, ℕ, suc, List, [], ◌∷◌, drop, length, take, get_or, sym, refl, ap, ap₂, subst, add-one, arith}
+use Rattle.std.proofs.Math.Seq.{drop-cons}
 use Rattle.std.proofs.lemmas.List.Sums.{fold_more}
 use Rattle.hg_life.specs.Members.{MemberList}
 use Rattle.hg_script.specs.declared.line.Action.{Action}
@@ -15,6 +16,16 @@ use Rattle.hg_play.specs.Summaries.{PlaysQuietly}
 use Rattle.hg_play.specs.Tape.{TapeView, tape}
 use Rattle.hg_play.proofs.LikeLaws.{worlds_alike}
 use Rattle.hg_play.proofs.WorldLaws.{starts-lines, starts-new}
+
+-- the first of what is left of a list
+pub some_left : {X : Type 0} (xs rest : List X) (i : ℕ) (d : X) → rest ≡ drop i xs → i < length xs → 0 < length rest
+some_left xs rest i d is lt = (let long : length rest ≡ length (get_or xs i d ∷ drop (suc i) xs) = ap length (is ∙ drop-cons xs i d lt) in omega (arith, long))
+
+pub first_is : {X : Type 0} (xs rest rest_new : List X) (i : ℕ) (x : X) → rest ≡ drop i xs → i < length xs → rest ≡ x ∷ rest_new → x ≡ get_or xs i x
+first_is xs rest rest_new i x is lt next = ap (λ l. get_or l 0 x) (sym next ∙ (is ∙ drop-cons xs i x lt))
+
+pub others_are : {X : Type 0} (xs rest rest_new : List X) (i : ℕ) (x : X) → rest ≡ drop i xs → i < length xs → rest ≡ x ∷ rest_new → rest_new ≡ drop (i + 1) xs
+others_are xs rest rest_new i x is lt next = ap (λ l. drop 1 l) (sym next ∙ (is ∙ drop-cons xs i x lt)) ∙ ap (λ k. drop k xs) (sym (add-one i))
 
 -- the nodes and the labels after so many lines
 abbrev pub QuietSoFar : MemberList → List Line → ℕ → WorldView → WorldView → List (List ℕ) → Type 0

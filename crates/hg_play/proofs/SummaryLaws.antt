@@ -1,5 +1,5 @@
 -- What is told of nodes: the names of an order, nodes that are settled one after the other, and the summary of all
-use Rattle.std.proofs.Common.{inl, inr, true, false, not, ◌≡◌, ◌≢◌, ◌∙◌, ◌+◌, ◌<◌, ◌≤◌, ◌++◌, ℕ, zero, suc, take, append-nil, cond, Bool, List, [], ◌∷◌, length, get_or, slice_get, slice_set, sym, refl, ap, ap₂, subst, add-one, append_assoc, arith}
+use Rattle.std.proofs.Common.{inl, inr, true, false, not, ◌≡◌, ◌≢◌, ◌∙◌, ◌+◌, ◌<◌, ◌≤◌, ◌++◌, ℕ, zero, suc, take, append-nil, cond, Bool, List, [], ◌∷◌, length, get_or, slice_get, slice_set, Some, sym, refl, ap, ap₂, subst, add-one, append_assoc, arith}
 use Rattle.std.specs.Prelude.{All}
 use Rattle.std.specs.Str.{bytes_eq}
 use Rattle.std.specs.List.{sum}

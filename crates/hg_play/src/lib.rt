@@ -1,6 +1,7 @@
 //! A gossip script played over the members' nodes, each line some steps of a run; with workers it is played in batches.
 //! The layer above uses `play`, whose answer is all that the script prints, as the definitions say it, and whose run is
-//! safe and its blocks agree (premises: `IsSafe` of `hg_runs`); and `summary`, its last blocks alone.
+//! safe and its blocks agree (premises: `IsSafe` of `hg_runs`); and `summary`, which tells of its last blocks alone, and keeps
+//! neither lines nor what they print.
 //!
 //! From `run_script` of `hg_top`:
 //!

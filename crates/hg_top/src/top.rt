@@ -75,7 +75,8 @@ fn run<R: Threads + Wait + Sync, F: Shelf, K: Sink, G: Gate + Sync>(
     run_script(rt, alloc, &list, script, workers, shelf, out, gate)
 }
 
-/// What the run of made members and lines comes to.
+/// What the run of made members and lines comes to. The nodes are let be in the end, and not freed one by one: the process,
+/// whose last work this is, gives all memory back at once.
 fn make<R: Threads + Wait + Sync, K: Sink, G: Gate + Sync>(
     rt: &R,
     alloc: Global,
