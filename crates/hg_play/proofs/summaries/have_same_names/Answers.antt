@@ -9,4 +9,4 @@ loop-i-preserved g c =
     let i = c.loop-i.i in
     let there : i < length others = rw (← c.if-order-others.false) c.loop-i-test.true in
     names_more _ order i _ c.row.result.now c.loop-i-test.true c.row.ensures
-    ∙ (ap₂ (λ (a b : List ℕ). a ++ b) c.loop-i.invariant (same_name _ _ c.ne.result c.ne.ensures c.if-ne.false) ∙ sym (names_more _ others i _ c.row-2.result.now there c.row-2.ensures))
+    ∙ (ap₂ (λ (a b : List ℕ). a ++ b) c.loop-i.invariant (same_name _ _ c.ne.result c.ne.ensures c.if-ne.false) ∙ sym (names_more _ others i _ c.row-in-loop-i.result.now there c.row-in-loop-i.ensures))
