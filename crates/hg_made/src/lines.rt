@@ -71,16 +71,11 @@ pub struct MadeLines {
 
 impl Model for MadeLines {
     ghost use Rattle.std.specs.Prelude.{◌-◌, ◌≤◌};
-    ghost use Rattle.hg_made.specs.Made.{MadeView};
+    ghost use Rattle.hg_made.specs.Made.{MadeView, lines_at};
 
     ghost Value = { MadeView };
 
-    ghost view = { λ s. record {
-        members = s.members;
-        state = s.draws;
-        made = s.made;
-        left = s.count - s.made;
-    } };
+    ghost view = { λ s. lines_at s.members s.draws s.made (s.count - s.made) };
 
     ghost invariant = { λ s. (2 ≤ s.members) × (s.members ≤ 128) × (s.made ≤ s.count) };
 }

@@ -48,11 +48,11 @@ quiet_more members lines i line old now new t t_new within is silent so_far told
     let next : after_lines members first (take (i + 1) lines) ≡ after_line members s line =
     fold_more (after_line members) first lines i line within ∙ ap (after_line members s) (sym is) in (
       then.agrees
-      ∙ (ap₂ (λ (w : WorldView) (labels : List (List ℕ)). after_steps w (action_steps w labels line.action)) here.0 here.1
-      ∙ ap (λ (u : Rattle.hg_play.specs.Play.Stage). u.world) (sym next)),
+          ∙ (ap₂ (λ (w : WorldView) (labels : List (List ℕ)). after_steps w (action_steps w labels line.action)) here.0 here.1
+          ∙ ap (λ (u : Rattle.hg_play.specs.Play.Stage). u.world) (sym next)),
       ap (λ (u : TapeView). u.labels) then.taped
-      ∙ (ap₂ (λ (w : WorldView) (labels : List (List ℕ)). action_labels members w labels line.action) here.0 here.1
-      ∙ ap (λ (u : Rattle.hg_play.specs.Play.Stage). u.labels) (sym next)),
+          ∙ (ap₂ (λ (w : WorldView) (labels : List (List ℕ)). action_labels members w labels line.action) here.0 here.1
+          ∙ ap (λ (u : Rattle.hg_play.specs.Play.Stage). u.labels) (sym next)),
     )
 
 -- all of them, over the members' nodes

@@ -187,12 +187,12 @@ settled_next members old now new m so step settled =
     let same : (k : ℕ) → k ≢ m → node_at new k ≡ node_at now k = λ k other. ap (λ (w : WorldView). node_at w k) step ∙ still members now m k other in
     record {
       done = λ k low node. elim (cases_eq k m) [
-          | inl here ↦ subst (λ (j : ℕ). IsSettled (node_at old j) (node_at new j)) (sym here)
-              (subst (λ (v : NodeView Secrets). IsSettled v (node_at new m)) (so.rest m (omega arith)) (settled (subst (λ (j : ℕ). has_node members j ≡ true) here node)))
-          | inr other ↦
-              let lower : k < m = lower_than k m low other in
-              subst (λ (v : NodeView Secrets). IsSettled (node_at old k) v) (sym (same k other)) (so.done k lower node)
-        ];
+        | inl here ↦ subst (λ (j : ℕ). IsSettled (node_at old j) (node_at new j)) (sym here)
+            (subst (λ (v : NodeView Secrets). IsSettled v (node_at new m)) (so.rest m (omega arith)) (settled (subst (λ (j : ℕ). has_node members j ≡ true) here node)))
+        | inr other ↦
+            let lower : k < m = lower_than k m low other in
+            subst (λ (v : NodeView Secrets). IsSettled (node_at old k) v) (sym (same k other)) (so.done k lower node)
+      ];
       rest = λ k past. same k (above m k past) ∙ so.rest k (omega (arith, past));
     }
   where

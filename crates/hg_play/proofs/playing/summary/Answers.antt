@@ -3,9 +3,10 @@ use Rattle.hg_outcome.specs.Summary.{summary_of}
 use Rattle.hg_play.proofs.SummaryLaws.{IsSummed, played_sites, summed}
 use Rattle.hg_play.proofs.playing.summary.Given as given
 use Rattle.hg_play.proofs.playing.summary.Goals as goal
+use Rattle.hg_play.proofs.playing.summary.Goals.{After-is_world}
 
 -- the world once its nodes are settled
-last : (g : given.Over) (c : goal.After-is_world g) → IsSummed c.args.members.now (g.L.LineSource.rest c.args.lines.now) c.settle_all.new.world
+last : (g : given.Over) (c : After-is_world g) → IsSummed c.args.members.now (g.L.LineSource.rest c.args.lines.now) c.settle_all.new.world
 last g c =
     summed c.args.members.now c.args.workers (g.L.LineSource.rest c.args.lines.now) c.in_ok-world.world c.settle_all.new.world c.requires.lines c.in_ok-world.ensures.new c.in_ok-world.ensures.played
     c.in_ok-settle_all.ensures.after c.in_ok-settle_all.ensures.settled c.is_world.ensures.world
