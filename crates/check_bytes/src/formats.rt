@@ -14,7 +14,7 @@ use hg_made::{Draws, generate};
 use hg_model::{Items, Memory, Name, Sig};
 use hg_name::name_of;
 use hg_pay::write_pay;
-use hg_script::{Action, Gossip, Line, Part};
+use hg_script::{Action, Gossip, Line, Part, all_lines};
 use hg_sign::{MacTable, signed_bytes};
 use std::alloc::Global;
 use std::process::Abort;
@@ -195,7 +195,8 @@ fn sync_of(line: &Line) -> (u16, u16, u64, &[u8]) {
 #[test]
 fn made_lines_are_drawn_so(rt: HostRuntime) -> Result<(), Fail> {
     let alloc = rt.alloc();
-    let (members, lines) = generate(alloc, 1, 4, 7)?;
+    let (members, mut lines) = generate(alloc, 1, 4, 7)?;
+    let lines = all_lines(alloc, &mut lines)?;
     equal(&rt, 0, lines.len(), 7);
     for (case, wanted) in MADE.iter().enumerate() {
         let line = lines.get(4 + case).ok_or("no line")?;

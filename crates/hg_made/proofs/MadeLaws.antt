@@ -1,5 +1,5 @@
 -- What is made keeps to the rules of members and of lines
-use Rattle.std.proofs.Common.{◌≡◌, ◌∙◌, ◌+◌, ◌-◌, ◌*◌, ◌%◌, ◌<◌, ◌≤◌, ◌++◌, ℕ, zero, suc, Bool, true, false, List, [], ◌∷◌, length, get_or, slice_get, cond, drop, All, sum_by, Some, refl, sym, ap, subst, inl, inr, arith, add-one, zero-add, mod-lt}
+use Rattle.std.proofs.Common.{◌≡◌, ◌∙◌, ◌+◌, ◌-◌, ◌*◌, ◌%◌, ◌<◌, ◌≤◌, ◌++◌, ℕ, zero, suc, Bool, true, false, List, [], ◌∷◌, length, get_or, slice_get, cond, drop, All, sum_by, Some, refl, sym, ap, subst, inl, inr, arith, add-one, zero-add, mod-lt, append-nil, append_assoc}
 use Rattle.std.specs.Prelude.{nat_lt}
 use Rattle.std.specs.Fmt.{digits}
 use Rattle.std.specs.List.{list_all, range_with_len}
@@ -19,7 +19,7 @@ use Rattle.hg_script.specs.declared.line.Gossip.TheVariants.{Create}
 use Rattle.hg_script.specs.declared.line.Line.{Line}
 use Rattle.hg_script.specs.Lawful.{HasNode, IsGossip, IsLine, IsShortPayload}
 use Rattle.hg_made.specs.Draws.{drawn}
-use Rattle.hg_made.specs.Made.{first_lines, made_gossip, made_line, made_member, made_members, made_sync, made_transfer, member_name, peer_of, state_behind, with_line}
+use Rattle.hg_made.specs.Made.{Making, first_lines, lines_from, made_gossip, made_line, made_member, made_members, made_sync, made_transfer, member_name, peer_of, state_behind, with_line}
 
 -- ---- members
 
@@ -78,12 +78,29 @@ with_node seed n m low =
 first_lines_next : (seed n j : ℕ) → first_lines seed n (j + 1) ≡ with_line n j (first_lines seed n j)
 first_lines_next seed n j = ap (first_lines seed n) (add-one j)
 
-pub lines_next : (seed n j state : ℕ) (lines : List Line) → first_lines seed n j ≡ record { state = state; lines = lines }
-    → first_lines seed n (j + 1) ≡ record { state = state_behind n state j; lines = lines ++ made_line n state j ∷ [] }
-lines_next seed n j state lines is = first_lines_next seed n j ∙ ap (with_line n j) is
+-- the first lines, and so many behind them
+made_so_far : (seed n j k : ℕ) → (first_lines seed n j).lines ++ lines_from n (first_lines seed n j).state j k ≡ (first_lines seed n (j + k)).lines
+made_so_far seed n j zero =
+    let count : j ≡ j + 0 = omega arith in
+    append-nil (first_lines seed n j).lines ∙ ap (λ (i : ℕ). (first_lines seed n i).lines) count
+made_so_far seed n j (suc k) =
+    let now = first_lines seed n j in
+    let line = made_line n now.state j in
+    let next = λ (m : Making). m.lines ++ lines_from n m.state (j + 1) k in
+    let count : (j + 1) + k ≡ j + suc k = omega arith in
+    sym (append_assoc now.lines (line ∷ []) (lines_from n (state_behind n now.state j) (j + 1) k))
+    ∙ (ap next (sym (first_lines_next seed n j)) ∙ (made_so_far seed n (j + 1) k ∙ ap (λ (i : ℕ). (first_lines seed n i).lines) count))
 
-pub no_lines : (seed n : ℕ) → first_lines seed n 0 ≡ record { state = seed; lines = [] }
-no_lines seed n = refl
+pub all_made : (seed n k : ℕ) → lines_from n seed 0 k ≡ (first_lines seed n k).lines
+all_made seed n k = made_so_far seed n 0 k ∙ ap (λ (i : ℕ). (first_lines seed n i).lines) (zero-add k)
+
+pub length_from : (n x j k : ℕ) → length (lines_from n x j k) ≡ k
+length_from n x j zero = refl
+length_from n x j (suc k) = ap suc (length_from n (state_behind n x j) (j + 1) k)
+
+pub first_from : (n x j k : ℕ) → 0 < k → lines_from n x j k ≡ made_line n x j ∷ lines_from n (state_behind n x j) (j + 1) (k - 1)
+first_from n x j zero some = absurd (omega (arith, some))
+first_from n x j (suc k) some = (let one : k ≡ suc k - 1 = omega arith in ap (λ (i : ℕ). made_line n x j ∷ lines_from n (state_behind n x j) (j + 1) i) one)
 
 other_than : (taker b : ℕ) → taker ≡ peer_of taker b → ⊥
 other_than taker b same = go (nat_lt b taker) refl same

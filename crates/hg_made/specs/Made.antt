@@ -72,6 +72,24 @@ abbrev pub first_lines : ℕ → ℕ → ℕ → Making
 first_lines seed n zero = record { state = seed; lines = [] }
 first_lines seed n (suc j) = with_line n j (first_lines seed n j)
 
+-- lines of n members that are made one after the other: the state of the draws, how many were made, and how many are left
+pub record MadeView : Type 0 where
+  pub members : ℕ
+  pub state : ℕ
+  pub made : ℕ
+  pub left : ℕ
+
+abbrev pub lines_at : ℕ → ℕ → ℕ → ℕ → MadeView
+lines_at n x j left = record { members = n; state = x; made = j; left = left }
+
+-- so many lines from line j on
+abbrev pub lines_from : ℕ → ℕ → ℕ → ℕ → List Line
+lines_from n x j zero = []
+lines_from n x j (suc left) = made_line n x j ∷ lines_from n (state_behind n x j) (j + 1) left
+
+abbrev pub lines_to_come : MadeView → List Line
+lines_to_come v = lines_from v.members v.state v.made v.left
+
 -- so many members, and so many lines for them
 unfoldable pub generate : ℕ → ℕ → ℕ → MemberList × List Line
 generate seed n lines = (made_members seed n, (first_lines seed n lines).lines)

@@ -19,6 +19,7 @@ use Rattle.hg_life.specs.declared.pay.Effect.{Effect}
 use Rattle.hg_life.specs.declared.pay.Effect.TheVariants as effect
 use Rattle.hg_outcome.specs.declared.outcome.OrderLine.{OrderLine}
 use Rattle.hg_outcome.specs.declared.outcome.Block.{Block}
+use Rattle.hg_outcome.specs.declared.outcome.Head.{Head}
 use Rattle.hg_outcome.specs.declared.outcome.Printed.{Printed}
 use Rattle.hg_outcome.specs.declared.outcome.Printed.TheVariants as printed
 use Rattle.hg_outcome.specs.declared.outcome.Outcome.{Outcome}
@@ -104,11 +105,25 @@ abbrev pub balances_text : List (List ℕ) → ℕ → List ℕ → List ℕ
 balances_text names m [] = []
 balances_text names m (balance ∷ balances) = balance_text names m balance ++ balances_text names (suc m) balances
 
--- the first line of a block
+-- the first line of a block, of what it tells
+abbrev pub head_line : List (List ℕ) → Head → List ℕ
+head_line names h =
+    codes "node " ++ name_of_member names h.member ++ with_number (codes " events") h.events ++ with_number (codes " forkers") h.forkers
+    ++ with_number (codes " round") h.greatest ++ with_number (codes " closed") h.closed ++ with_number (codes " ordered") h.ordered ++ codes "\n"
+
+-- what the first line of the block tells
+abbrev pub head_of : Block → Head
+head_of b = record {
+  member = b.member;
+  events = b.events;
+  forkers = b.forkers;
+  greatest = b.greatest;
+  closed = b.closed;
+  ordered = length b.order;
+}
+
 abbrev pub head_text : List (List ℕ) → Block → List ℕ
-head_text names b =
-    codes "node " ++ name_of_member names b.member ++ with_number (codes " events") b.events ++ with_number (codes " forkers") b.forkers
-    ++ with_number (codes " round") b.greatest ++ with_number (codes " closed") b.closed ++ with_number (codes " ordered") (length b.order) ++ codes "\n"
+head_text names b = head_line names (head_of b)
 
 abbrev pub block_text : Bool → List (List ℕ) → Block → List ℕ
 block_text named names b = head_text names b ++ order_text named names 1 b.order ++ balances_text names 0 b.balances

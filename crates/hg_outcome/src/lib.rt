@@ -21,4 +21,4 @@
 
 mod outcome;
 
-pub use outcome::{Block, OrderLine, Outcome, Printed};
+pub use outcome::{Block, Head, NodeSummary, OrderLine, Outcome, Printed, Summary};

@@ -1,3 +1,7 @@
+ghost use Rattle.std.specs.Prelude.{◌≡◌};
+ghost use Rattle.hg_outcome.specs.Report.{head_of};
+ghost use Rattle.hg_outcome.specs.Summary.{head_told};
+
 use hg_life::{Effect, MakeAnswer, PutAnswer, SyncReport};
 use hg_model::{Bytes, Items, Member, Name};
 
@@ -16,6 +20,17 @@ pub struct OrderLine {
     pub name: Name,
 }
 
+/// What the first line of a block tells of a node: its counts, and how many rows its order has.
+#[derive(Clone, Copy, Debug, PartialEq, Eq)]
+pub struct Head {
+    pub member: Member,
+    pub events: u64,
+    pub forkers: u32,
+    pub greatest: u32,
+    pub closed: u32,
+    pub ordered: u64,
+}
+
 /// What is printed of a node: its counts, its order, and all balances in the order of the members.
 #[derive(Debug, Drop)]
 pub struct Block {
@@ -30,6 +45,22 @@ pub struct Block {
     pub closed: u32,
     pub order: Items<OrderLine>,
     pub balances: Items<u64>,
+}
+
+impl Block {
+    /// What its first line tells.
+    pub fn head(&self) -> Head
+        ensures { result ≡ head_of self.now }
+    {
+        Head {
+            member: self.member,
+            events: self.events,
+            forkers: self.forkers,
+            greatest: self.greatest,
+            closed: self.closed,
+            ordered: self.order.as_slice().len() as u64,
+        }
+    }
 }
 
 /// One piece of the report. `line` is the number of the script's line, from 1.
@@ -58,4 +89,41 @@ pub enum Printed {
 pub struct Outcome {
     pub names: Items<Bytes>,
     pub printed: Items<Printed>,
+}
+
+/// What a summary tells of a node: what the first line of its block tells, the digest of the names of the ordered rows, and
+/// the sum of all balances.
+#[derive(Clone, Copy, Debug, PartialEq, Eq)]
+pub struct NodeSummary {
+    pub member: Member,
+    pub events: u64,
+    pub forkers: u32,
+    pub greatest: u32,
+    pub closed: u32,
+    pub ordered: u64,
+    pub digest: Name,
+    pub total: u128,
+}
+
+impl NodeSummary {
+    /// What the first line of the node's block tells.
+    pub fn head(&self) -> Head
+        ensures { result ≡ head_told self.now }
+    {
+        Head {
+            member: self.member,
+            events: self.events,
+            forkers: self.forkers,
+            greatest: self.greatest,
+            closed: self.closed,
+            ordered: self.ordered,
+        }
+    }
+}
+
+/// What is told of the last blocks of a run, and the names of its members in their order.
+#[derive(Debug, Drop)]
+pub struct Summary {
+    pub names: Items<Bytes>,
+    pub nodes: Items<NodeSummary>,
 }

@@ -1,6 +1,6 @@
 ghost use Rattle.hg_io.specs.Printing.{PutsOn};
 ghost use Rattle.std.specs.Prelude.{◌≡◌, ◌++◌, codes, length};
-ghost use Rattle.hg_outcome.specs.Report.{balance_text, balances_text, effect_text, head_text, line_end};
+ghost use Rattle.hg_outcome.specs.Report.{balance_text, balances_text, effect_text, head_line, line_end};
 ghost use Rattle.hg_pieces.specs.Pieces.{pieces_text};
 ghost use Rattle.hg_pieces.specs.Writes.{PutsBlock, PutsOrder, PutsLine};
 
@@ -8,7 +8,7 @@ use crate::pieces::{Piece, name_of, write_pieces};
 use hg_io::{Failed, Page, Sink};
 use hg_life::Effect;
 use hg_model::Bytes;
-use hg_outcome::{Block, OrderLine};
+use hg_outcome::{Block, Head, OrderLine};
 
 /// What came of an event's payload, behind a blank.
 fn effect_pieces(effect: &Effect) -> [Piece<'_>; 4]
@@ -137,26 +137,26 @@ pub fn write_head<K: Sink>(
     page: &mut Page,
     sink: &mut K,
     names: &[Bytes],
-    block: &Block,
+    head: &Head,
 ) -> Result<(), Failed>
-    ensures { PutsOn K.Sink sink.old sink.new page.old page.new (head_text names.now block.now) result }
+    ensures { PutsOn K.Sink sink.old sink.new page.old page.new (head_line names.now head.now) result }
 {
     write_pieces(
         page,
         sink,
         &[
             Piece::Bytes(b"node "),
-            Piece::Bytes(name_of(names, usize::from(block.member))),
+            Piece::Bytes(name_of(names, usize::from(head.member))),
             Piece::Bytes(b" events "),
-            Piece::Number(block.events),
+            Piece::Number(head.events),
             Piece::Bytes(b" forkers "),
-            Piece::Number(u64::from(block.forkers)),
+            Piece::Number(u64::from(head.forkers)),
             Piece::Bytes(b" round "),
-            Piece::Number(u64::from(block.greatest)),
+            Piece::Number(u64::from(head.greatest)),
             Piece::Bytes(b" closed "),
-            Piece::Number(u64::from(block.closed)),
+            Piece::Number(u64::from(head.closed)),
             Piece::Bytes(b" ordered "),
-            Piece::Number(block.order.as_slice().len() as u64),
+            Piece::Number(head.ordered),
             Piece::Bytes(b"\n"),
         ],
     )
@@ -172,7 +172,7 @@ pub fn write_block<'a, K: Sink>(
 ) -> Result<(), Failed>
     ensures { PutsBlock K.Sink sink.old sink.new page.old page.new named names.entry.now block.entry.now result }
 {
-    write_head(page, sink, names, block)?;
+    write_head(page, sink, names, &block.head())?;
     write_order(page, sink, named, names, block.order.as_slice())?;
     write_balances(page, sink, names, block.balances.as_slice())?;
     Ok(())

@@ -16,3 +16,5 @@ mod PartLaws
 mod ReadLaws
 mod BatchLaws
 mod LawfulLaws
+mod SummaryLaws
+mod QuietLaws

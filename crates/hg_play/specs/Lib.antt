@@ -9,5 +9,6 @@ pub mod Outcomes
 pub mod Play
 pub mod Printing
 pub mod Sites
+pub mod Summaries
 pub mod Tape
 pub mod Through

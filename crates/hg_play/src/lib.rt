@@ -1,6 +1,7 @@
 //! A gossip script played over the members' nodes, each line some steps of a run; with workers it is played in batches.
 //! The layer above uses `play`, whose answer is all that the script prints, as the definitions say it, and whose run is
-//! safe and its blocks agree (premises: `IsSafe` of `hg_runs`); and `summary`, its last blocks alone.
+//! safe and its blocks agree (premises: `IsSafe` of `hg_runs`); and `summary`, which tells of its last blocks alone, and keeps
+//! neither lines nor what they print.
 //!
 //! From `run_script` of `hg_top`:
 //!
@@ -27,6 +28,7 @@ mod outcomes;
 mod playing;
 mod printing;
 mod shared;
+mod summaries;
 mod taking;
 mod tape;
 mod through;
@@ -35,3 +37,4 @@ pub use hg_seat::Seated;
 pub use laws::{lines_are_steps, lines_need_rows_alone, steps_need_rows_alone};
 pub use outcomes::{block_of, outcome_of};
 pub use playing::{play, play_world, summary};
+pub use summaries::summary_of;

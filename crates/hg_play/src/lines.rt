@@ -1,6 +1,7 @@
 ghost use Rattle.std.specs.Prelude.{◌≡◌, All, IfOk, OnOk, length};
 ghost use Rattle.hg_play.specs.Lines.{IsBelow, IsLineBelow, IsPartBelow, IsSourceBelow};
 ghost use Rattle.hg_play.specs.Nodes.{IsKept, MatchesSource, Plays, PlaysLine, PlaysLines, seen_alone};
+ghost use Rattle.hg_play.specs.Summaries.{PlaysQuietly};
 
 use crate::blocks::{kept_at, settled_at};
 use crate::game::Game;
@@ -10,7 +11,7 @@ use crate::nodes::Nodes;
 use crate::tape::Tape;
 use hg_model::{Bytes, Memory, Share};
 use hg_outcome::Printed;
-use hg_script::{Action, Line, Part, Source};
+use hg_script::{Action, Line, LineSource, Part, Source};
 use hg_world::World;
 
 /// The bytes from a source.
@@ -130,4 +131,23 @@ pub(crate) fn play_lines(game: &Game, world: &mut World, lines: &[Line]) -> Resu
         play_line(game, world, &mut tape, line)?;
     }
     Ok(tape)
+}
+
+/// Plays the lines from a source over a world, one after the other, and keeps neither them nor what they print.
+pub(crate) fn play_quietly<L: LineSource>(
+    game: &Game,
+    world: &mut World,
+    lines: &mut L,
+) -> Result<(), Memory>
+    requires { All (IsLineBelow (length world.old.sites)) (L.rest lines.old) }
+    ensures { OnOk result (PlaysQuietly game.now.members.now (L.rest lines.old) world.old world.new) }
+{
+    let mut tape = Tape::new(game.alloc);
+    let count = lines.left();
+    for _ in 0..count {
+        let line = lines.next_line()?;
+        play_line(game, world, &mut tape, &line)?;
+        tape.clear();
+    }
+    Ok(())
 }

@@ -9,20 +9,23 @@ ghost use Rattle.hg_life.specs.Workers.{most_workers};
 ghost use Rattle.hg_play.specs.Nodes.{Closes};
 ghost use Rattle.hg_play.specs.Play.{IsSafePlay, end_steps, end_steps_of, play, played_world, summary};
 ghost use Rattle.hg_play.specs.Sites.{AreMadeWith, BeganWith};
+ghost use Rattle.hg_play.specs.Summaries.{IsSettledNode, IsWorldOf, SettledBelow};
+ghost use Rattle.hg_outcome.specs.Summary.{summary_of};
 
 use crate::band::Band;
 use crate::batch::play_batches;
 use crate::blocks::push_blocks;
 use crate::game::Game;
-use crate::lines::play_lines;
+use crate::lines::{play_lines, play_quietly};
 use crate::outcomes::names;
+use crate::summaries::summary_of;
 use crate::tape::Tape;
 use hg_board::Crew;
 use hg_io::Gate;
 use hg_life::Members;
 use hg_model::{Items, Member, Memory};
-use hg_outcome::Outcome;
-use hg_script::Line;
+use hg_outcome::{Outcome, Summary};
+use hg_script::{Line, LineSource, all_lines};
 use hg_sign::MacTable;
 use hg_world::World;
 use std::alloc::Global;
@@ -35,6 +38,7 @@ fn settle_at(members: &Members, world: &mut World, member: usize) -> Result<(), 
     requires few { member < 2 ^ 16 }
     ensures sites { length world.new.sites ≡ length world.old.sites }
     ensures ok { OnOk result (world.new ≡ after_steps world.old (end_steps_of members.now member)) }
+    ensures settled { OnOk result (IsSettledNode members.now member world.old world.new) }
 {
     if members.has_node(member as Member) {
         world.settle(member as Member)?;
@@ -45,7 +49,8 @@ fn settle_at(members: &Members, world: &mut World, member: usize) -> Result<(), 
 /// All nodes are settled, in the order of the members.
 fn settle_all(members: &Members, world: &mut World) -> Result<(), Memory>
     requires { length world.old.sites ≡ length members.now.entries }
-    ensures { OnOk result (world.new ≡ after_steps world.old (end_steps members.now (length members.now.entries))) }
+    ensures after { OnOk result (world.new ≡ after_steps world.old (end_steps members.now (length members.now.entries))) }
+    ensures settled { OnOk result (SettledBelow members.now (length members.now.entries) world.old world.new) }
 {
     for member in 0..members.count() as usize {
         settle_at(members, world, member)?;
@@ -128,20 +133,46 @@ pub fn play<R: Threads + Wait + Sync, C: Crew + Sync, G: Gate + Sync>(
     Ok(outcome)
 }
 
-/// The same with the names and the last blocks alone.
-pub fn summary<R: Threads + Wait + Sync, C: Crew + Sync, G: Gate + Sync>(
+/// Plays the lines as `play_all` does. Without workers nothing is kept of what they print.
+fn play_all_quietly<R: Threads + Wait + Sync, C: Crew + Sync, G: Gate + Sync, L: LineSource>(
     rt: &R,
-    alloc: Global,
-    members: &Members,
-    lines: &[Line],
+    game: &Game,
+    lines: &mut L,
     workers: u32,
     crew: &C,
     gate: &G,
-) -> Result<Outcome, Memory>
+) -> Result<World, Memory>
     requires workers { workers ≤ most_workers }
-    requires lines { All (IsLine members.now workers) lines.now }
-    ensures outcome { IfOk result (λ outcome. outcome ≡ summary members.now lines.now) }
-    ensures safe { OnOk result (IsSafePlay members.now lines.now) }
+    requires lines { All (IsLine game.now.members.now workers) (L.rest lines.old) }
+    ensures new { OnOk result (IsWorld (new_world game.now.members.now)) }
+    ensures played { IfOk result (IsWorldOf game.now.members.now (L.rest lines.old)) }
+{
+    if workers > 0 {
+        let all = all_lines(game.alloc, lines)?;
+        let (world, _) = play_all(rt, game, all.as_slice(), workers, crew, gate)?;
+        return Ok(world);
+    }
+    let mut world = World::new(game.alloc, game.members)?;
+    world.is_world();
+    play_quietly(game, &mut world, lines)?;
+    Ok(world)
+}
+
+/// What is told of the last blocks of the same play. The nodes come along, so that the caller may let them be: to free them
+/// takes some time.
+pub fn summary<R: Threads + Wait + Sync, C: Crew + Sync, G: Gate + Sync, L: LineSource>(
+    rt: &R,
+    alloc: Global,
+    members: &Members,
+    lines: &mut L,
+    workers: u32,
+    crew: &C,
+    gate: &G,
+) -> Result<(Summary, World), Memory>
+    requires workers { workers ≤ most_workers }
+    requires lines { All (IsLine members.now workers) (L.rest lines.old) }
+    ensures outcome { IfOk result (λ r. r.0 ≡ summary_of (summary members.now (L.rest lines.old))) }
+    ensures safe { OnOk result (IsSafePlay members.now (L.rest lines.old)) }
 {
     let keys = MacTable::new(alloc, members)?;
     let game = Game {
@@ -149,9 +180,11 @@ pub fn summary<R: Threads + Wait + Sync, C: Crew + Sync, G: Gate + Sync>(
         members,
         keys: &keys,
     };
-    let (world, _) = play_all(rt, &game, lines, workers, crew, gate)?;
-    let outcome = closed(&game, world, Tape::new(alloc))?;
-    Ok(outcome)
+    let mut world = play_all_quietly(rt, &game, lines, workers, crew, gate)?;
+    settle_all(members, &mut world)?;
+    world.is_world();
+    let summary = summary_of(alloc, members, &world)?;
+    Ok((summary, world))
 }
 
 /// The world with which `play` ends without workers: the lines are played over the members' nodes, which are settled then.

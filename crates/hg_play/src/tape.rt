@@ -1,5 +1,5 @@
-ghost use Rattle.std.specs.Prelude.{◌≡◌, OnOk};
-ghost use Rattle.hg_play.specs.Tape.{no_tape, with_label, with_piece};
+ghost use Rattle.std.specs.Prelude.{◌≡◌, OnOk, []};
+ghost use Rattle.hg_play.specs.Tape.{no_tape, tape, with_label, with_piece};
 
 use hg_model::{Bytes, Memory};
 use hg_outcome::Printed;
@@ -53,6 +53,13 @@ impl Tape {
     {
         self.printed.push(piece)?;
         Ok(())
+    }
+
+    /// What was printed so far is let go.
+    pub(crate) fn clear(&mut self)
+        ensures { self.new ≡ tape self.old.labels [] }
+    {
+        self.printed.clear();
     }
 
     /// All that was printed.

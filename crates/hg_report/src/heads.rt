@@ -17,7 +17,7 @@ fn write_piece_head<K: Sink>(
     ensures { PutsOn K.Sink sink.old sink.new page.old page.new (piece_head names.now piece.now) result }
 {
     match piece {
-        Printed::Block(block) => write_head(page, sink, names, block),
+        Printed::Block(block) => write_head(page, sink, names, &block.head()),
         _ => Ok(()),
     }
 }

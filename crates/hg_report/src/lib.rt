@@ -1,6 +1,6 @@
 //! The report's text, as a function of what a run prints. Every number is decimal, every line ends with one line feed.
 //! The layer above uses `text_of`, which writes `report_text` of the outcome to a sink, by pages, without memory, and
-//! `summary_of`, which so writes `summary_text`, a few lines for each node.
+//! `summary_of`, which so writes `told_text` of a summary, a few lines for each node.
 //!
 //! From `run_script` of `hg_top`:
 //!

@@ -19,10 +19,12 @@ pub mod argument;
 mod fault;
 mod found;
 mod line;
+mod lines;
 mod verb;
 
 pub use above::Above;
 pub use fault::{ScriptFault, Why};
 pub use found::Found;
 pub use line::{Action, Gossip, Line, Part, Source};
+pub use lines::{LineSource, all_lines};
 pub use verb::Verb;

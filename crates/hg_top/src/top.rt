@@ -21,6 +21,7 @@ use hg_play::{play, summary};
 use hg_report::{summary_of, text_of};
 use hg_workers::Voters;
 use std::alloc::Global;
+use std::mem::forget;
 use std::sync::Wait;
 use std::thread::Threads;
 
@@ -74,7 +75,8 @@ fn run<R: Threads + Wait + Sync, F: Shelf, K: Sink, G: Gate + Sync>(
     run_script(rt, alloc, &list, script, workers, shelf, out, gate)
 }
 
-/// What the run of made members and lines comes to.
+/// What the run of made members and lines comes to. The nodes are let be in the end, and not freed one by one: the process,
+/// whose last work this is, gives all memory back at once.
 fn make<R: Threads + Wait + Sync, K: Sink, G: Gate + Sync>(
     rt: &R,
     alloc: Global,
@@ -90,13 +92,17 @@ fn make<R: Threads + Wait + Sync, K: Sink, G: Gate + Sync>(
     requires workers { workers ≤ 16 }
     ensures { WroteOn K.Sink out.old out.new (IsSummaryOf (made_run members lines seed workers)) result }
 {
-    let (list, lines) = match generate(alloc, seed, members, lines) {
+    let (list, mut lines) = match generate(alloc, seed, members, lines) {
         Ok(made) => made,
         Err(Memory) => return Status::Memory,
     };
     let voters = Voters::new(gate);
-    match summary(rt, alloc, &list, lines.as_slice(), workers, &voters, gate) {
-        Ok(outcome) => status_of(summary_of(&outcome, out)),
+    match summary(rt, alloc, &list, &mut lines, workers, &voters, gate) {
+        Ok((summary, world)) => {
+            let status = status_of(summary_of(&summary, out));
+            forget(world);
+            status
+        }
         Err(Memory) => Status::Memory,
     }
 }

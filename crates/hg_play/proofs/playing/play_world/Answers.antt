@@ -13,26 +13,26 @@ play_lines-requires c = lines_below c.args.members.now 0 _ c.args.lines.now (new
 
 pub returns-clause-world : goal.returns-clause-world
 returns-clause-world c =
-    world_played c.args.members.now c.args.lines.now c.in_ok-world.world c.play_lines.new.world c.settle_all.new.world _ c.in_ok-world.ensures c.in_ok-play_lines.ensures.told c.in_ok-settle_all.ensures
+    world_played c.args.members.now c.args.lines.now c.in_ok-world.world c.play_lines.new.world c.settle_all.new.world _ c.in_ok-world.ensures c.in_ok-play_lines.ensures.told c.in_ok-settle_all.ensures.after
 
 pub returns-clause-made : goal.returns-clause-made
 returns-clause-made c =
     world_made c.args.members.now c.args.lines.now c.settle_all.new.world
-    (world_played c.args.members.now c.args.lines.now c.in_ok-world.world c.play_lines.new.world c.settle_all.new.world _ c.in_ok-world.ensures c.in_ok-play_lines.ensures.told c.in_ok-settle_all.ensures)
+    (world_played c.args.members.now c.args.lines.now c.in_ok-world.world c.play_lines.new.world c.settle_all.new.world _ c.in_ok-world.ensures c.in_ok-play_lines.ensures.told c.in_ok-settle_all.ensures.after)
 
 pub returns-clause-began : goal.returns-clause-began
 returns-clause-began c =
     world_began c.args.members.now c.args.lines.now c.settle_all.new.world
-    (world_played c.args.members.now c.args.lines.now c.in_ok-world.world c.play_lines.new.world c.settle_all.new.world _ c.in_ok-world.ensures c.in_ok-play_lines.ensures.told c.in_ok-settle_all.ensures)
+    (world_played c.args.members.now c.args.lines.now c.in_ok-world.world c.play_lines.new.world c.settle_all.new.world _ c.in_ok-world.ensures c.in_ok-play_lines.ensures.told c.in_ok-settle_all.ensures.after)
 
 pub returns-clause-safe : goal.returns-clause-safe
 returns-clause-safe c =
     safe-played c.args.members.now c.args.lines.now c.settle_all.new.world
-    (world_played c.args.members.now c.args.lines.now c.in_ok-world.world c.play_lines.new.world c.settle_all.new.world _ c.in_ok-world.ensures c.in_ok-play_lines.ensures.told c.in_ok-settle_all.ensures)
+    (world_played c.args.members.now c.args.lines.now c.in_ok-world.world c.play_lines.new.world c.settle_all.new.world _ c.in_ok-world.ensures c.in_ok-play_lines.ensures.told c.in_ok-settle_all.ensures.after)
     c.is_world.ensures.safe
 
 pub returns-clause-count : goal.returns-clause-count
 returns-clause-count c =
-    let played = world_played c.args.members.now c.args.lines.now c.in_ok-world.world c.play_lines.new.world c.settle_all.new.world _ c.in_ok-world.ensures c.in_ok-play_lines.ensures.told c.in_ok-settle_all.ensures in
+    let played = world_played c.args.members.now c.args.lines.now c.in_ok-world.world c.play_lines.new.world c.settle_all.new.world _ c.in_ok-world.ensures c.in_ok-play_lines.ensures.told c.in_ok-settle_all.ensures.after in
     ap (λ (w : WorldView). length w.sites) played
     ∙ (steps_sites (new_world c.args.members.now) (play_steps c.args.members.now c.args.lines.now) ∙ new_count c.args.members.now (new_world c.args.members.now) refl)
