@@ -2,8 +2,9 @@ use crate::telling::equal;
 use hg_io::{Failed, SinkMem};
 use hg_life::{Effect, MakeAnswer, MakeFault, SyncMade, SyncReport};
 use hg_model::{Bytes, Items, Memory};
-use hg_outcome::{Block, OrderLine, Outcome, Printed};
+use hg_outcome::{Block, NodeSummary, OrderLine, Outcome, Printed, Summary};
 use hg_report::{summary_of, text_of};
+use sha2::{Digest, Sha384};
 use std::alloc::Global;
 use std::test::Fail;
 
@@ -92,6 +93,30 @@ fn outcome(alloc: Global) -> Result<Outcome, Fail> {
     })
 }
 
+// Of the same block.
+fn summary(alloc: Global) -> Result<Summary, Fail> {
+    let outcome = outcome(alloc)?;
+    let mut hasher = Sha384::new();
+    for byte in 1..4 {
+        hasher.update(&[byte; 48]);
+    }
+    let mut nodes = Vec::new(alloc);
+    nodes.push(NodeSummary {
+        member: 1,
+        events: 20,
+        forkers: 1,
+        greatest: 4,
+        closed: 2,
+        ordered: 3,
+        digest: hasher.finalize(),
+        total: 100,
+    })?;
+    Ok(Summary {
+        names: outcome.names,
+        nodes: Items::from_vec(nodes),
+    })
+}
+
 #[test]
 fn the_text_is_written(rt: HostRuntime) -> Result<(), Fail> {
     let outcome = outcome(rt.alloc())?;
@@ -99,7 +124,7 @@ fn the_text_is_written(rt: HostRuntime) -> Result<(), Fail> {
     equal(&rt, 0, text_of(&outcome, &mut sink), Ok(()));
     equal(&rt, 1, sink.bytes() == TEXT.as_bytes(), true);
     let mut sink = ample(rt.alloc())?;
-    equal(&rt, 2, summary_of(&outcome, &mut sink), Ok(()));
+    equal(&rt, 2, summary_of(&summary(rt.alloc())?, &mut sink), Ok(()));
     equal(&rt, 3, sink.bytes() == SUMMARY.as_bytes(), true);
     Ok(())
 }
