@@ -14,7 +14,7 @@ use Rattle.hg_model.specs.Shares.{whole}
 use Rattle.hg_life.specs.Calls.{IsSettled, settle_changes}
 use Rattle.hg_life.specs.History.{Change}
 use Rattle.hg_life.specs.Members.{MemberList, has_node, names_of}
-use Rattle.hg_life.specs.NodeView.{IsNode, NodeView, Start, node_rows, start_of, with_changes}
+use Rattle.hg_life.specs.NodeView.{IsNode, NodeView, Start, node_rows, start_of, terms_of, with_changes}
 use Rattle.hg_life.specs.Signing.{accepts_by, secrets_of}
 use Rattle.hg_life.specs.Workers.{worker_limit}
 use Rattle.hg_history.proofs.NodeLaws.{settles_all}
@@ -165,7 +165,8 @@ node_before v u more is node =
       few_members = later.few_members;
       coin = later.coin;
       balances = later.balances;
-      history = moment (accepts_by v.start.keys) v.start.members v.start.coin v.start.own v.history more later.history;
+      limit = later.limit;
+      history = moment (terms_of accepts_by v.start) v.start.members v.start.coin v.start.own v.history more later.history;
     }
 
 -- it shows the fame of its own graph
