@@ -11,6 +11,7 @@ from damage import any_damage, cut, damaged_script, flip
 from damaged_files import (built_journal, certificate_of, damaged_certificate,
                            damaged_event, damaged_journal, damaged_message)
 from event import Fault, decode_first
+from free_rows import rows_case
 from journal import Stored
 from member_files import damaged_members, member_file
 from messages import have_message, rows_message
@@ -62,6 +63,18 @@ def run_case(rng, files):
             if not line.startswith(words)).encode()
         yield run_words(workers=workers)
         yield run_words()
+
+
+def many_case(rng, files):
+    """More members: eight to as many as there may be."""
+    count = rng.choice([8, 10, 13, 21, 32, 64, 127, 128])
+    files["members"] = member_file(rng, count)
+    maker = ScriptMaker(rng, files["members"], most_rows=count + rng.randint(9, 99))
+    files["script"] = maker.fill(300).text()
+    yield run_words()
+    own = rng.choice(maker.nodes)
+    files["proof"] = yield run_words("prove", own=own)
+    yield words_of("check", members="members", proof="proof")
 
 
 def script_case(rng, files):
@@ -122,7 +135,7 @@ def proof_case(rng, files):
             node.graph.own_order(length))
         yield words_of("check", members="members", proof="proof")
         for _ in range(4):
-            files["proof"] = damaged_certificate(rng, good, foreign)
+            files["proof"] = damaged_certificate(rng, maker.members, good, foreign)
             yield words_of("check", members="members", proof="proof")
     files["proof"] = good
     text = files["members"].decode()
@@ -162,8 +175,8 @@ def journal_case(rng, files):
         good = files["disk"]
         files["events"] = made_events(rng, maker, foreign)
         if len(good) >= 10 and rng.random() < 0.5:
-            rows = len(Stored(good, maker.members, maker.members.number(own)).node.rows)
-            files["disk"] = damaged_journal(rng, good, rows, foreign)
+            node = Stored(good, maker.members, maker.members.number(own)).node
+            files["disk"] = damaged_journal(rng, good, node, foreign)
         elif len(good) < 2:
             files["disk"] = rng.choice([b"", b"\0", b"\1", b"\0HGJ1", good])
         options = {"time": rng.getrandbits(8)} if rng.random() < 0.7 else {}
@@ -252,7 +265,8 @@ def words_case(rng, files):
         yield words
 
 
-KINDS = {"run": run_case, "faces": faces_case, "script": script_case, "members": members_case,
-         "make": make_case, "proof": proof_case, "journal": journal_case,
+KINDS = {"run": run_case, "faces": faces_case, "many": many_case, "rows": rows_case,
+         "script": script_case, "members": members_case, "make": make_case,
+         "proof": proof_case, "journal": journal_case,
          "wire": wire_case, "storm": storm_case, "words": words_case,
          "line": line_case, "value": value_case}

@@ -2,7 +2,7 @@
 
 import certificate
 from damage import any_damage, cut, flip, grow, set_number
-from event import Fault
+from event import Fault, decode, signed_event
 from journal import HEAD, Stored
 from node import Known
 
@@ -32,10 +32,29 @@ def damaged_event(rng, data):
     return data[:at] + bytes([data[at] ^ mask]) + data[at + 1 :]
 
 
-def damaged_rows(rng, spellings, foreign):
+def signed_row(rng, members, rows):
+    """A well signed row on any of the rows given, whoever made them."""
+    creator = rng.randrange(len(members.list))
+    parents = (None, ())
+    if rows and rng.random() < 0.8:
+        decoded = [decode(row) for row in rows]
+        own = [row.name for row in decoded if row.creator == creator]
+        alien = [row.name for row in decoded if row.creator != creator]
+        any_name = [row.name for row in decoded]
+        first = rng.choice(own if own and rng.random() < 0.8 else any_name)
+        fit = alien if alien and rng.random() < 0.8 else any_name
+        parents = (first, tuple(rng.choice(fit) for _ in range(rng.randint(1, 4))))
+    return signed_event(members.secret(creator), creator, *parents,
+                        rng.getrandbits(64), b"")
+
+
+def damaged_rows(rng, members, spellings, foreign):
     """Rows of a certificate changed, gone, twice, moved or of other runs."""
     rows = list(spellings)
-    change = rng.randrange(7)
+    change = rng.randrange(10)
+    if change > 6:
+        at = rng.randint(0, len(rows))
+        return rows[:at] + [signed_row(rng, members, rows[:at])] + rows[at:]
     at = rng.randrange(len(rows)) if rows else 0
     if change == 0 and rows:
         rows[at] = damaged_event(rng, rows[at])
@@ -77,7 +96,7 @@ def damaged_entries(rng, entries):
     return entries
 
 
-def damaged_certificate(rng, data, foreign):
+def damaged_certificate(rng, members, data, foreign):
     """A certificate with damage to its bytes, its rows or its entries."""
     spellings, entries = parts_of(data)
     change = rng.randrange(7)
@@ -87,7 +106,7 @@ def damaged_certificate(rng, data, foreign):
         ends = [4, 8 + sum(map(len, spellings))]
         return set_number(rng, data, rng.choice(ends))
     if change < 5:
-        return certificate_of(damaged_rows(rng, spellings, foreign), entries)
+        return certificate_of(damaged_rows(rng, members, spellings, foreign), entries)
     return certificate_of(spellings, damaged_entries(rng, entries))
 
 
@@ -127,11 +146,22 @@ def mark_record(rng, rows):
     return b"\3" + size.to_bytes(2, "big") + body
 
 
-def damaged_journal(rng, data, rows, foreign):
+def own_record(rng, node):
+    """A record of an own row on any earlier own row, as made or as taken."""
+    own = [None] + [row.name for row in node.rows if row.creator == node.own]
+    alien = [row.name for row in node.rows if row.creator != node.own]
+    self_parent = rng.choice(own) if alien else None
+    others = () if self_parent is None else (rng.choice(alien),)
+    body = signed_event(node.members.secret(node.own), node.own, self_parent,
+                        others, rng.getrandbits(8), b"")
+    return rng.choice([b"\1", b"\2", b"\2"]) + len(body).to_bytes(2, "big") + body
+
+
+def damaged_journal(rng, data, node, foreign):
     """A journal with a torn tail, a changed gate, head or record."""
     gates = gates_of(data)
     at = rng.choice(gates)
-    change = rng.randrange(11)
+    change = rng.randrange(13)
     if change == 0:
         return data[: rng.randint(0, len(data))]
     if change == 1:
@@ -145,12 +175,14 @@ def damaged_journal(rng, data, rows, foreign):
     if change == 5:
         return data[:rng.randint(0, 12)]
     if change == 6:
-        return data[:-1] + b"\1" + mark_record(rng, rows) + b"\0"
+        return data[: gates[-1]] + b"\1" + mark_record(rng, len(node.rows)) + b"\0"
+    if change > 10:
+        return data[: gates[-1]] + b"\1" + own_record(rng, node) + b"\0"
     if change in (7, 8) and foreign:
         body = rng.choice(foreign)
         kind = rng.choice([0, 1, 1, 2, 2, 4]).to_bytes(1, "big")
         record = kind + len(body).to_bytes(2, "big") + body
-        return data[:-1] + b"\1" + record + rng.choice([b"\0", b"", b"\0xyz"])
+        return data[: gates[-1]] + b"\1" + record + rng.choice([b"\0", b"", b"\0xyz"])
     if change == 9:
         at += rng.randint(1, 3)
         return data[:at] + rng.randbytes(1) + data[at + 1 :]

@@ -3,6 +3,11 @@
 LETTERS = "ABCDEFG"
 
 
+def name_at(place):
+    """The name of a member by its place."""
+    return LETTERS[place] if place < len(LETTERS) else f"M{place}"
+
+
 def member_text(name, secret, **keys):
     """The table of one member."""
     lines = ["[[member]]", f'name = "{name}"', f'secret = "{secret}"']
@@ -43,7 +48,7 @@ def member_file(rng, count=None, few_nodes=False, even=False):
         if few_nodes and place > 1 and rng.random() < 0.3:
             keys["node"] = False
         secret = rng.randbytes(rng.choice([1, 4, 16, 64, 127, 128])).hex()
-        texts.append(member_text(LETTERS[place], secret, **keys))
+        texts.append(member_text(name_at(place), secret, **keys))
     return "".join(texts).encode()
 
 

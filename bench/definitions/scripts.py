@@ -135,6 +135,16 @@ class ScriptMaker:
             name = self.rng.choice(bare)
             self.say(f"create {name} {self.time()}{self.payload()}")
 
+    def do_late(self):
+        """A first event that comes to a node which has published."""
+        bare = [name for name in self.nodes if not self.made_one(name)]
+        if bare and len(bare) < len(self.nodes):
+            x = self.rng.choice([n for n in self.nodes if n not in bare])
+            for line in (f"freeze {x} 2", f"publish {x} 2", f"kept {x}",
+                         f"create {bare[0]} {self.time()}",
+                         f"pull {x} {bare[0]}", f"kept {x}"):
+                self.say(line)
+
     def do_sync(self):
         """A sync, where the taker has a first event."""
         if len(self.nodes) > 1:
@@ -338,7 +348,8 @@ class ScriptMaker:
         weights = {"do_sync": 55, "do_pull": 5, "do_join": 6, "do_name": 5,
                    "do_fork": self.rng.choice([0, 1, 4]), "do_wrong": 2,
                    "do_damage": 3, "do_give": 3, "do_worker": 5, "do_show": 1,
-                   "do_nothing": 1, "do_create": 1,
+                   "do_nothing": 1, "do_create": self.rng.choice([0, 1]),
+                   "do_late": self.rng.choice([0.2, 1]),
                    "do_face": self.rng.choice([10, 20])}
         if self.faces_only:
             weights = {"do_layer": 60, "do_worker": 2, "do_show": 1, "do_sync": 1}
