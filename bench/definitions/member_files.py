@@ -44,7 +44,8 @@ def member_file(rng, count=None, few_nodes=False, even=False):
         if stakes[place] != 1 or rng.random() < 0.2:
             keys["stake"] = stakes[place]
         if rng.random() < 0.7:
-            keys["balance"] = rng.choice([0, 1, 10, 100, 1000, 2**60])
+            keys["balance"] = rng.choice([0, 1, 10, 100, 1000,
+                                          2**60 if count < 8 else 2**50])
         if few_nodes and place > 1 and rng.random() < 0.3:
             keys["node"] = False
         secret = rng.randbytes(rng.choice([1, 4, 16, 64, 127, 128])).hex()
