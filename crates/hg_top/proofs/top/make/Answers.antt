@@ -23,4 +23,4 @@ returns-in-Ok-summary g c =
       is = ap told_text c.in-Ok-summary.ensures.outcome ∙ ap summary_text (ap₂ summary list lines);
       safe = subst (λ (l : MemberList). IsSafePlay l (made_by m).1) list (subst (IsSafePlay c.in-Ok.made.0) lines c.in-Ok-summary.ensures.safe);
     } in
-    rw c.status_of.ensures (wrote g.K.Sink c.args.out.now c.summary_of.new.sink (IsSummaryOf m) text c.summary_of.result is c.summary_of.ensures)
+    rw c.status_of-status.ensures (wrote g.K.Sink c.args.out.now c.summary_of.new.sink (IsSummaryOf m) text c.summary_of.result is c.summary_of.ensures)
