@@ -39,7 +39,7 @@ const CUT: [(usize, &str); 15] = [
 /// Up to which byte, if it alone is XORed with 1, which reason is the first.
 const CHANGED: [(usize, &str); 72] = [
     (4, "form 0"),
-    (6, "form 4"),
+    (5, "form 4"),
     (8, "form 1232"),
     (12, "form 8"),
     (13, "row 0 member 257"),
