@@ -104,6 +104,18 @@ impl<T: Drop> Blocks<T> {
         ensures room { OnOk result (1 ≤ self.new.room) }
         ensures same { self.new.items ≡ self.old.items }
     {
+        if self.tail.len() < self.tail.capacity().min(64) && self.len < usize::MAX {
+            return Ok(());
+        }
+        self.reserve_block()
+    }
+
+    /// The same where there is no such memory yet. A call of its own, so that the other case is short.
+    #[inline(never)]
+    fn reserve_block(&mut self) -> Result<(), Memory>
+        ensures room { OnOk result (1 ≤ self.new.room) }
+        ensures same { self.new.items ≡ self.old.items }
+    {
         if self.len == usize::MAX {
             return Err(Memory);
         }

@@ -67,6 +67,20 @@ impl<T: Copy> RowBlocks<T> {
         ensures numbers { self.new.numbers ≡ self.old.numbers }
         ensures width { self.new.width ≡ self.old.width }
     {
+        let whole = self.width.saturating_mul(64);
+        if self.tail.len() < whole && whole <= self.tail.capacity() {
+            return Ok(());
+        }
+        self.reserve_block()
+    }
+
+    /// The same where there is no such memory yet. A call of its own, so that the other case is short.
+    #[inline(never)]
+    fn reserve_block(&mut self) -> Result<(), Memory>
+        ensures room { OnOk result (1 ≤ self.new.room) }
+        ensures numbers { self.new.numbers ≡ self.old.numbers }
+        ensures width { self.new.width ≡ self.old.width }
+    {
         let Some(whole) = self.width.checked_mul(64) else {
             return Err(Memory);
         };

@@ -1,4 +1,4 @@
-ghost use Rattle.std.specs.Prelude.{◌≡◌, ◌≢◌, ◌<◌, ◌≤◌, ◌-◌, ℕ, cond, nat_lt, not, true, length, slice_index, IfOk, OnErr, OnOk};
+ghost use Rattle.std.specs.Prelude.{◌≡◌, ◌≢◌, ◌<◌, ◌≤◌, ◌+◌, ◌-◌, ℕ, cond, nat_lt, not, true, length, slice_index, IfOk, OnErr, OnOk};
 ghost use Rattle.hg_model.specs.Stakes.{total};
 ghost use Rattle.hg_model.specs.Seeing.{is_supermajority};
 ghost use Rattle.hg_branches.specs.Landmarks.{landmark_at, noted_once, AreNotedBy, AreNotedOn, HoldsChains, HoldsNewest, HoldsTops, IsLastOn, IsNeverStrong, IsWeighed, LeavesBelow, LeavesFrom, NotesAll, NotesBy, NotesOn, AllWide, IsWidened, Widens};
@@ -205,12 +205,31 @@ fn note_own(
 {
     let mut news = [0; 128];
     tops.mark_news(known, counts, &mut news);
-    for c in 0..counts.len() {
-        if news[c] > 0 {
-            let least = number_at(known, c);
-            let count = number_at(counts, c);
-            note_branch(landmarks, newest, c, least, count, next);
+    let members = counts.len();
+    let mut from = 0;
+    while from < members {
+        let end = members.min(from + 8);
+        if !are_eight_old(&news, from) {
+            for c in from..end {
+                if news[c] > 0 {
+                    let least = number_at(known, c);
+                    let count = number_at(counts, c);
+                    note_branch(landmarks, newest, c, least, count, next);
+                }
+            }
         }
+        from = end;
+    }
+}
+
+/// Whether the eight lanes from this one on have no news. It may answer no where they have none.
+fn are_eight_old(news: &[u8; 128], c: usize) -> bool
+    requires { c < 128 }
+    ensures { result ≡ true → (d : ℕ) → c ≤ d → d < c + 8 → slice_index news.now d ≡ 0 }
+{
+    match news[c..].first_chunk::<8>() {
+        None => false,
+        Some(eight) => u64::from_le_bytes(*eight) == 0,
     }
 }
 

@@ -74,7 +74,7 @@ impl Tops {
     }
 
     /// Marks with 1, and else 0, each lane in which a row counts more than is known, and some landmark is not known.
-    pub fn mark_news(&self, known: Counts<'_>, counts: Counts<'_>, news: &mut [u16])
+    pub fn mark_news(&self, known: Counts<'_>, counts: Counts<'_>, news: &mut [u8])
         requires known_all { length (numbers_of counts) ≤ length (numbers_of known) }
         requires tops_all { length (numbers_of counts) ≤ length self.now.ends }
         requires room { length (numbers_of counts) ≤ length news.old }
@@ -96,7 +96,7 @@ impl Tops {
 /// One loop without a branch, in a call of its own, where the compiler knows that the lists do not overlap: it makes vectors
 /// of it.
 #[inline(never)]
-fn mark_narrow(known: &[u16], tops: &[u16], counts: &[u16], news: &mut [u16])
+fn mark_narrow(known: &[u16], tops: &[u16], counts: &[u16], news: &mut [u8])
     requires known_all { length counts.now ≤ length known.now }
     requires tops_all { length counts.now ≤ length tops.now }
     requires room { length counts.now ≤ length news.old }
@@ -105,13 +105,13 @@ fn mark_narrow(known: &[u16], tops: &[u16], counts: &[u16], news: &mut [u16])
     ensures short { (c : ℕ) → slice_index counts.now c < 2 ^ 16 }
 {
     for c in 0..counts.len() {
-        news[c] = u16::from(known[c] < tops[c].min(counts[c]));
+        news[c] = u8::from(known[c] < tops[c].min(counts[c]));
     }
 }
 
 /// The same of 32 bits.
 #[inline(never)]
-fn mark_wide(known: &[u32], tops: &[u32], counts: &[u32], news: &mut [u16])
+fn mark_wide(known: &[u32], tops: &[u32], counts: &[u32], news: &mut [u8])
     requires known_all { length counts.now ≤ length known.now }
     requires tops_all { length counts.now ≤ length tops.now }
     requires room { length counts.now ≤ length news.old }
@@ -119,12 +119,12 @@ fn mark_wide(known: &[u32], tops: &[u32], counts: &[u32], news: &mut [u16])
     ensures each { AreNews known.now tops.now counts.now news.new }
 {
     for c in 0..counts.len() {
-        news[c] = u16::from(known[c] < tops[c].min(counts[c]));
+        news[c] = u8::from(known[c] < tops[c].min(counts[c]));
     }
 }
 
 /// The same of a row whose self-parent has another width.
-fn mark_mixed(known: Counts<'_>, tops: &[u32], counts: Counts<'_>, news: &mut [u16])
+fn mark_mixed(known: Counts<'_>, tops: &[u32], counts: Counts<'_>, news: &mut [u8])
     requires tops_all { length (numbers_of counts) ≤ length tops.now }
     requires room { length (numbers_of counts) ≤ length news.old }
     ensures len { length news.new ≡ length news.old }
@@ -132,6 +132,6 @@ fn mark_mixed(known: Counts<'_>, tops: &[u32], counts: Counts<'_>, news: &mut [u
 {
     for c in 0..counts.len() {
         let least = number_at(known, c);
-        news[c] = u16::from(least < tops[c].min(number_at(counts, c)));
+        news[c] = u8::from(least < tops[c].min(number_at(counts, c)));
     }
 }

@@ -141,6 +141,20 @@ fn placed_cmp<P: Prefix>(p: &P, white: &Sig, a: &Placed, b: &Placed) -> Ordering
 fn rows_cmp<P: Prefix>(p: &P, white: &Sig, x: usize, y: usize) -> Ordering
     ensures { result ≡ rows_cmp (P.graph p.now).rows white.now x y }
 {
+    is_of_graph(p);
+    if x < p.rows() && y < p.rows() {
+        let a = p.row(x);
+        let b = p.row(y);
+        return white_cmp(&a.sig, &a.name, &b.sig, &b.name, white);
+    }
+    any_rows_cmp(p, white, x, y)
+}
+
+/// The same where a place may be of no row.
+#[tactic(auto, unfolding(crate::specs::Round::rows_cmp))]
+fn any_rows_cmp<P: Prefix>(p: &P, white: &Sig, x: usize, y: usize) -> Ordering
+    ensures { result ≡ rows_cmp (P.graph p.now).rows white.now x y }
+{
     let a = tie_break_at(p, x);
     let b = tie_break_at(p, y);
     white_cmp(&a.sig, &a.name, &b.sig, &b.name, white)

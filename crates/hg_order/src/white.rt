@@ -7,11 +7,17 @@ use hg_model::{Name, Prefix, Sig};
 use std::cmp::Ordering;
 
 /// How two rows compare whose consensus timestamps are the same: by their signatures, each XORed with `white`, and at
-/// last by their names.
+/// last by their names. It reads no further than to the first bytes that differ.
 pub fn white_cmp(a: &Sig, a_name: &Name, b: &Sig, b_name: &Name, white: &Sig) -> Ordering
     ensures { result ≡ whitened_cmp white.now a.now a_name.now b.now b_name.now }
 {
-    xor(a, white).cmp(&xor(b, white)).then(a_name.cmp(b_name))
+    for i in 0..64 {
+        match (a[i] ^ white[i]).cmp(&(b[i] ^ white[i])) {
+            Ordering::Equal => {}
+            unequal => return unequal,
+        }
+    }
+    a_name.cmp(b_name)
 }
 
 /// XORs bytes into bytes.

@@ -1,19 +1,10 @@
-use Rattle.std.proofs.Common.{◌≡◌, ◌+◌, ◌*◌, ◌≤◌, inl, inr, ap, arith, length, refl}
+use Rattle.std.proofs.Common.{◌≢◌, ◌*◌, inl, ap, arith, length}
 use Rattle.hg_blocks.proofs.RowLaws.{room_left}
 use Rattle.hg_blocks.proofs.rows.RowBlocks.reserve.Goals as goal
-use Rattle.hg_blocks.proofs.rows.RowBlocks.reserve.Goals.{then-len-whole+then-whole-gt0+in_ok-seal, else-len-whole, else-len-whole-via-then-len-whole+else-whole-gt0, else-len-whole-via-else-len-whole}
 
-pub returns-clause-room : goal.returns-clause-room
-returns-clause-room g c =
-    let s = c.if-len-whole.self-inside in
-    let left : (length s.tail.items + s.width ≤ 64 * s.width) × (s.width ≡ c.self.inside.width) = elim c.if-len-whole.branch [
-      | then-len-whole+then-whole-gt0+in_ok-seal w ↦ rw w.self-inside-is (rw w.in_ok-seal.ensures.empty (omega arith), refl)
-      | else-len-whole w ↦ rw w.self-inside-is (
-        room_left _ c.self.invariant.rows _ c.self.invariant.whole c.self.invariant.few (elim w.else-len-whole.branch [
-          | else-len-whole-via-then-len-whole+else-whole-gt0 v ↦ inr (omega arith)
-          | else-len-whole-via-else-len-whole v ↦ inl (λ same. v.if-len-whole.false (omega arith))
-        ]),
-        refl,
-      )
-    ] in
-    omega (arith, left.0, left.1, ap length c.reserve.ensures.items, c.in_ok-reserve.ensures.ok, c.len-2.ensures)
+pub returns-then-whole-capacity-clause-room : goal.returns-then-whole-capacity-clause-room
+returns-then-whole-capacity-clause-room g c =
+    let s = c.self.inside in
+    let unfilled : length s.tail.items ≢ 64 * s.width = λ same. omega (arith, same, c.saturating_mul-whole.ensures, c.if-len-whole.true, c.len.ensures) in
+    let left = room_left s.width _ (length s.tail.items) c.self.invariant.whole c.self.invariant.few (inl unfilled) in
+    omega (arith, left, ap (λ v. v.room) c.self.view_is, c.saturating_mul-whole.ensures, c.if-len-whole.true, c.if-whole-capacity.true, c.len.ensures, c.capacity.ensures)
