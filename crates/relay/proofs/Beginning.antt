@@ -25,7 +25,7 @@ use Rattle.hg_top.specs.declared.status.Status.{Status}
 use Rattle.hg_top.specs.declared.status.Status.TheVariants as status
 use Rattle.relay.specs.declared.gossip.Outside.{Outside}
 use Rattle.relay.specs.declared.request.Request.{Request}
-use Rattle.relay.specs.Moments.{HasCause, Moment, NoMemory, Unheard, Unkept, Unsaid, moment}
+use Rattle.relay.specs.Moments.{HasCause, Moment, NoMemory, Unheard, Unkept, Unsaid, moment, streams}
 use Rattle.relay.specs.Relaying.{Damaged, Ended, IsHalted, OfOthers, RelaySyncs, Relays, RelaysStored, unopened}
 use Rattle.relay.specs.Steps.{IsRelayed, RelaysAll, StopsRelayOf}
 use Rattle.relay.proofs.Leading.{relayed_start, still}
@@ -73,7 +73,7 @@ module _ {K : Type 0} (accepts : K → Accepts) (start : Start K) where
   -- ---- what came of it
 
   pub relays_stored : (asked : Request) (a b : Moment K) (s t : StoredView K) → IsSome s.node → ForSome a.file.reads (λ bytes. journal accepts start bytes ≡ s.node) → ForSome s.node (λ v. v.start ≡ start)
-      → ForSome s.node (λ v. RelaysAll accepts asked a.left b.left v t.node) → StoresNode accepts b.file t → RelaysStored accepts start asked a b t
+      → ForSome s.node (λ v. RelaysAll accepts asked (streams a) (streams b) v t.node) → StoresNode accepts b.file t → RelaysStored accepts start asked a b t
   relays_stored asked a b s t there opens begins all stores =
       let v = some_value s.node there in
       let u = all v.0 v.1 in

@@ -1,19 +1,19 @@
 -- Where steps of gossip lead, and what stops leave on the way.
-use Rattle.std.proofs.Common.{◌≡◌, inl, inr, ℕ, suc, List, [], ◌∷◌, take, Option, Some, is_some, refl, sym, ◌∙◌, ap, subst, length}
-use Rattle.std.specs.Prelude.{IsSome}
+use Rattle.std.proofs.Common.{◌≡◌, inl, inr, ℕ, suc, Bool, true, false, List, [], ◌∷◌, take, Option, Some, is_some, refl, sym, ◌∙◌, ap, subst, length}
+use Rattle.std.specs.Option.{ForSome}
+use Rattle.std.specs.Prelude.{Result, Ok, Err, IsSome, OnOk}
 use Rattle.hg_io.specs.FileView.{FileView}
 use Rattle.hg_life.specs.NodeView.{NodeView, Start}
 use Rattle.hg_life.specs.Signing.{Accepts}
 use Rattle.hg_keep.specs.Keeping.{IsMadeSome, IsSettledSome, PutsAll, SettlesOf, TurnOf, puts, settled, told_of}
 use Rattle.hg_keep.specs.Stops.{StopsLeave, StopsLeaveOf}
 use Rattle.hg_keep.specs.declared.kept.PutCounts.{PutCounts}
-use Rattle.hg_io.specs.Bytes.{IsReadOn}
 use Rattle.hg_keep.proofs.StopLaws.{leaves_on, leaves_wider, some_is, some_value, told_still}
 use Rattle.hg_keep.proofs.WayLaws.{makes_start, puts_start}
 use Rattle.hg_life.specs.declared.answers.MakeAnswer.{MakeAnswer}
 use Rattle.hg_wire.specs.Exchange.{rows_in}
 use Rattle.hg_wire.specs.declared.message.Message.{Message}
-use Rattle.relay.specs.Exchanges.{AreExchanges, AreExchangesOf, ExchangesOf, HearsRows, IsExchange, time_behind}
+use Rattle.relay.specs.Exchanges.{AreExchanges, AreExchangesOf, ExchangesOf, IsAsked, IsExchange, IsServed, LearnsOf, Streams, time_behind}
 use Rattle.relay.specs.declared.request.Request.{Request}
 use Rattle.relay.specs.Steps.{IsRelayed, IsStep, LeadsOver, Makes, Puts, RelaysAll, RelaysOf, Settles, StopsRelayOf}
 
@@ -106,28 +106,42 @@ module _ {K : Type 0} (accepts : K → Accepts) where
   pub relays_settled : (node next : Option (NodeView K)) → SettlesOf accepts node next → RelaysOf accepts node next
   relays_settled node next done v is = (settled v, (done v is).0, one_step v (settled v) (Settles (inr refl)))
 
-  pub exchanges_of : (time : ℕ) (before after : Option (List ℕ)) (said : Message) (events : List (List ℕ)) (node next last : Option (NodeView K)) (counts : PutCounts) (a : Option MakeAnswer)
-      → HearsRows before after said → events ≡ rows_in said → PutsAll accepts events node next counts → TurnOf accepts time next last a → ExchangesOf accepts time before after node last
-  exchanges_of time before after said events node next last counts a heard same all turn v is =
+  pub learns_of : (time : ℕ) (before after : Streams) (rows : Message) (events : List (List ℕ)) (node next last : Option (NodeView K)) (counts : PutCounts) (a : Option MakeAnswer)
+      → ForSome node (λ v. IsAsked v before after rows) → events ≡ rows_in rows → PutsAll accepts events node next counts → TurnOf accepts time next last a → LearnsOf accepts time before after node last
+  learns_of time before after rows events node next last counts a asks same all turn v is =
       let put = subst (λ (es : List (List ℕ)). next ≡ Some (puts accepts v es).0) same (all v is).0 in
-      let one = turn (puts accepts v (rows_in said)).0 put in
-      (one.0, one.1, record { said = said; heard = heard; answer = a; turn = one.2 })
+      let one = turn (puts accepts v (rows_in rows)).0 put in
+      (one.0, one.1, record { rows = rows; asks = asks v is; answer = a; turn = one.2 })
 
-  pub exchanges_none : (asked : Request) (left : Option (List ℕ)) (node : Option (NodeView K)) → IsReadOn left left → AreExchangesOf accepts asked 0 left left node node
-  exchanges_none asked left node still v is = (v, is, (refl, still))
+  pub exchanges_asking : {T E : Type 0} (asks_first : Bool) (time : ℕ) (before mid after : Streams) (node next : Option (NodeView K)) (r : Result T E) → asks_first ≡ true → LearnsOf accepts time before mid node next
+      → OnOk r (ForSome next (λ w. IsServed w mid after)) → OnOk r (ExchangesOf accepts asks_first time before after node next)
+  exchanges_asking asks_first time before mid after node next (Ok x) so learns serves = λ v is.
+      let one = learns v is in
+      (one.0, one.1, subst (λ (b : Bool). IsExchange accepts b time before after v one.0) (sym so) (mid, one.2, serves one.0 one.1))
+  exchanges_asking asks_first time before mid after node next (Err e) so learns serves = tt
 
-  pub exchanges_more : (asked : Request) (n time : ℕ) (before mid after : Option (List ℕ)) (node next last : Option (NodeView K)) → time ≡ time_behind asked n
-      → AreExchangesOf accepts asked n before mid node next → ExchangesOf accepts time mid after next last → AreExchangesOf accepts asked (suc n) before after node last
+  pub exchanges_serving : {T E : Type 0} (asks_first : Bool) (time : ℕ) (before mid after : Streams) (node next : Option (NodeView K)) (r : Result T E) → asks_first ≡ false → ForSome node (λ v. IsServed v before mid)
+      → OnOk r (LearnsOf accepts time mid after node next) → OnOk r (ExchangesOf accepts asks_first time before after node next)
+  exchanges_serving asks_first time before mid after node next (Ok x) so serves learns = λ v is.
+      let one = learns v is in
+      (one.0, one.1, subst (λ (b : Bool). IsExchange accepts b time before after v one.0) (sym so) (mid, serves v is, one.2))
+  exchanges_serving asks_first time before mid after node next (Err e) so serves learns = tt
+
+  pub exchanges_none : (asked : Request) (streams : Streams) (node : Option (NodeView K)) → AreExchangesOf accepts asked 0 streams streams node node
+  exchanges_none asked streams node v is = (v, is, (refl, refl))
+
+  pub exchanges_more : (asked : Request) (n time : ℕ) (before mid after : Streams) (node next last : Option (NodeView K)) → time ≡ time_behind asked n
+      → AreExchangesOf accepts asked n before mid node next → ExchangesOf accepts asked.asks_first time mid after next last → AreExchangesOf accepts asked (suc n) before after node last
   exchanges_more asked n time before mid after node next last at so_far one v is =
       let u = so_far v is in
       let e = one u.0 u.1 in
-      (e.0, e.1, (u.0, mid, u.2, subst (λ (t : ℕ). IsExchange accepts t mid after u.0 e.0) at e.2))
+      (e.0, e.1, (u.0, mid, u.2, subst (λ (t : ℕ). IsExchange accepts asked.asks_first t mid after u.0 e.0) at e.2))
 
   -- the two ways to one node
   same_node : (o : Option (NodeView K)) (u w : NodeView K) → o ≡ Some u → o ≡ Some w → w ≡ u
   same_node o u w first second = some_is w u (sym second ∙ first)
 
-  pub relays_all : (asked : Request) (before after : Option (List ℕ)) (node next last : Option (NodeView K)) → RelaysOf accepts node next → AreExchangesOf accepts asked asked.exchanges before after node next → SettlesOf accepts next last
+  pub relays_all : (asked : Request) (before after : Streams) (node next last : Option (NodeView K)) → RelaysOf accepts node next → AreExchangesOf accepts asked asked.exchanges before after node next → SettlesOf accepts next last
       → (v : NodeView K) → node ≡ Some v → RelaysAll accepts asked before after v last
   relays_all asked before after node next last relays so_far done v is =
       let u = relays v is in

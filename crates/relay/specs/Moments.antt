@@ -1,6 +1,6 @@
 -- A relay at a moment, and what gossip does between two
 use Rattle.std.specs.Prelude.{◌≡◌, ◌≤◌, ℕ, List, [], length, Option, Result, Ok, Err, IfErr, IsSome, is_some}
-use Rattle.hg_io.specs.Bytes.{IsReadOn}
+use Rattle.hg_io.specs.Bytes.{Appends, IsReadOn}
 use Rattle.hg_io.specs.Faults.{Rose}
 use Rattle.hg_io.specs.FileView.{FileView}
 use Rattle.hg_io.specs.Printing.{Prints}
@@ -20,6 +20,7 @@ use Rattle.hg_wire.specs.declared.message.WireFault.{WireFault}
 use Rattle.hg_wire.specs.Outcome.{Faulty, Finished, Unfinished}
 use Rattle.hg_wire.specs.Reading.{read}
 use Rattle.hg_wire.specs.Receiving.{Receives}
+use Rattle.relay.specs.Exchanges.{Streams}
 use Rattle.relay.specs.declared.gossip.Outside.{Outside}
 use Rattle.relay.specs.Steps.{RelaysOf, StopsRelayOf}
 
@@ -53,7 +54,7 @@ Says T before after text r = Prints T before after text r × IfErr r (λ status.
 -- ---- moments
 
 -- the node and its journal's file; whether that is started; how often the disk failed at it, and the streams from and to the
--- peer; and what the peer has still to say, where that is told
+-- peer; and what the peer has still to say, and what was said to it, where that is told
 pub record Moment (K : Type 0) : Type 1 where
   pub stored : StoredView K
   pub file : FileView
@@ -62,6 +63,7 @@ pub record Moment (K : Type 0) : Type 1 where
   pub unheard : ℕ
   pub unsaid : ℕ
   pub left : Option (List ℕ)
+  pub said : Option (List ℕ)
 
 -- that of a stored node with these things outside
 abbrev pub moment : {K A B C : Type 0} → disk.Ghosts A → source.Ghosts B → sink.Ghosts C → StoredView K → Outside A B C → Moment K
@@ -73,7 +75,16 @@ moment D S T stored out = record {
   unheard = S.faults out.source;
   unsaid = T.faults out.sink;
   left = S.left out.source;
+  said = T.written out.sink;
 }
+
+-- the streams then
+abbrev pub streams : {K : Type 0} → Moment K → Streams
+streams a = record { left = a.left; said = a.said }
+
+-- some bytes more were said
+abbrev pub IsSaidOn : Option (List ℕ) → Option (List ℕ) → Type 0
+IsSaidOn before after = (text : List ℕ) × Appends before after text
 
 -- a node is there, and its journal is the started file, which a stop leaves as it reads
 pub record IsOpen {K : Type 0} (accepts : K → Accepts) (a : Moment K) : Type 0 where
@@ -81,13 +92,14 @@ pub record IsOpen {K : Type 0} (accepts : K → Accepts) (a : Moment K) : Type 0
   pub started : a.Started
   pub keeps : StoresNode accepts a.file a.stored
 
--- from one moment to another some bytes were heard, no count fell, and a stop leaves the journal of a node that came of the
+-- from one moment to another some bytes were heard and some said, no count fell, and a stop leaves the journal of a node that came of the
 -- first one's by gossip
 pub record IsPassed {K : Type 0} (accepts : K → Accepts) (a b : Moment K) : Type 0 where
   pub name : b.stored.name ≡ a.stored.name
   pub shown : is_some b.file.reads ≡ is_some a.file.reads
   pub stops : StopsRelayOf accepts a.stored.node a.file b.file
   pub heard : IsReadOn a.left b.left
+  pub said : IsSaidOn a.said b.said
   pub faults : a.faults ≤ b.faults
   pub unheard : a.unheard ≤ b.unheard
   pub unsaid : a.unsaid ≤ b.unsaid

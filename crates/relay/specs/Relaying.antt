@@ -18,7 +18,7 @@ use Rattle.hg_top.specs.declared.status.Status.{Status}
 use Rattle.hg_top.specs.declared.status.Status.TheVariants.{Disk, Journal}
 use Rattle.relay.specs.declared.top.Relayed.{Relayed}
 use Rattle.relay.specs.Exchanges.{AreExchanges}
-use Rattle.relay.specs.Moments.{HasCause, Moment, moment}
+use Rattle.relay.specs.Moments.{HasCause, Moment, moment, streams}
 use Rattle.relay.specs.declared.gossip.Outside.{Outside}
 use Rattle.relay.specs.declared.request.Request.{Request}
 use Rattle.hg_io.specs.declared.disk.Disk as disk
@@ -33,7 +33,7 @@ pub record Relays {K : Type 0} (accepts : K → Accepts) (start : Start K) (aske
   pub last : NodeView K
   pub begins : Begins accepts start a.file first
   pub relayed : IsRelayed accepts first last
-  pub exchanges : AreExchanges accepts asked asked.exchanges a.left b.left first last
+  pub exchanges : AreExchanges accepts asked asked.exchanges (streams a) (streams b) first last
   pub is : w ≡ settled last
   pub settled_is : IsSettled last w
   pub stores : Stores accepts start b.file w

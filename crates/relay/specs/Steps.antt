@@ -6,7 +6,7 @@ use Rattle.hg_keep.specs.Keeping.{IsMadeSome, IsPutSome, IsSettledSome, SettlesO
 use Rattle.hg_keep.specs.Stops.{StopsLeaveOf}
 use Rattle.hg_life.specs.NodeView.{NodeView}
 use Rattle.hg_life.specs.Signing.{Accepts}
-use Rattle.relay.specs.Exchanges.{AreExchanges}
+use Rattle.relay.specs.Exchanges.{AreExchanges, Streams}
 use Rattle.relay.specs.declared.request.Request.{Request}
 
 -- a node after one step, or before: first ones of these bytes were put to it, it made the event that comes next, at this time
@@ -30,7 +30,7 @@ abbrev pub RelaysOf : {K : Type 0} → (K → Accepts) → Option (NodeView K) �
 RelaysOf {K} accepts old new = ForSome old (λ v. (w : NodeView K) × (new ≡ Some w) × IsRelayed accepts v w)
 
 -- .. by all exchanges that are asked for, and that one has then published all that its graph decides
-pub record RelaysAll {K : Type 0} (accepts : K → Accepts) (asked : Request) (before after : Option (List ℕ)) (v : NodeView K) (new : Option (NodeView K)) : Type 0 where
+pub record RelaysAll {K : Type 0} (accepts : K → Accepts) (asked : Request) (before after : Streams) (v : NodeView K) (new : Option (NodeView K)) : Type 0 where
   pub last : NodeView K
   pub relayed : IsRelayed accepts v last
   pub exchanges : AreExchanges accepts asked asked.exchanges before after v last

@@ -2,7 +2,7 @@ ghost use Rattle.std.specs.Prelude.{◌≤◌, IfOk, OnOk};
 ghost use Rattle.std.specs.Option.{ForSome};
 ghost use Rattle.hg_wire.specs.Grammar.{item_count, message_bytes};
 ghost use Rattle.hg_wire.specs.Reading.{count_limit};
-ghost use Rattle.relay.specs.Exchanges.{ExchangesOn, HearsRows};
+ghost use Rattle.relay.specs.Exchanges.{AsksOn, ExchangesOn, LearnsOn, ServesOn, streams_of};
 ghost use Rattle.relay.specs.Moments.{GossipsOn, Hears, IsOpen, Says, moment};
 ghost use Rattle.relay.specs.Steps.{RelaysAll};
 
@@ -54,7 +54,7 @@ impl<D: Disk, S: Source, K: Sink> Outside<D, S, K> {
     fn ask<V: Signer + Drop>(&mut self, stored: &Stored<V>) -> Result<Message, Status>
         requires { IsOpen V.accepts (moment D.Disk S.Source K.Sink stored.now self.old) }
         ensures gossips { GossipsOn V.accepts D.Disk S.Source K.Sink stored.now stored.now self.old self.new result }
-        ensures heard { IfOk result (HearsRows (S.left self.old.source) (S.left self.new.source)) }
+        ensures asks { IfOk result (AsksOn S.Source K.Sink stored.now self.old self.new) }
     {
         let node = stored.node().unwrap();
         node.is_node();
@@ -67,7 +67,8 @@ impl<D: Disk, S: Source, K: Sink> Outside<D, S, K> {
     /// Hears what the peer has, and answers by the rows that the node has beyond that.
     fn serve<V: Signer + Drop>(&mut self, stored: &Stored<V>) -> Result<(), Status>
         requires { IsOpen V.accepts (moment D.Disk S.Source K.Sink stored.now self.old) }
-        ensures { GossipsOn V.accepts D.Disk S.Source K.Sink stored.now stored.now self.old self.new result }
+        ensures gossips { GossipsOn V.accepts D.Disk S.Source K.Sink stored.now stored.now self.old self.new result }
+        ensures serves { OnOk result (ServesOn S.Source K.Sink stored.now self.old self.new) }
     {
         let node = stored.node().unwrap();
         node.is_node();
@@ -81,7 +82,7 @@ impl<D: Disk, S: Source, K: Sink> Outside<D, S, K> {
     fn learn<V: Signer + Drop>(&mut self, stored: &mut Stored<V>, time: u64) -> Result<(), Status>
         requires { IsOpen V.accepts (moment D.Disk S.Source K.Sink stored.old self.old) }
         ensures gossips { GossipsOn V.accepts D.Disk S.Source K.Sink stored.old stored.new self.old self.new result }
-        ensures exchanges { OnOk result (ExchangesOn V.accepts time S.Source self.old self.new stored.old stored.new) }
+        ensures learns { OnOk result (LearnsOn V.accepts time S.Source K.Sink stored.old stored.new self.old self.new) }
     {
         let rows = self.ask(stored)?;
         put_all(stored, &mut self.disk, rows_of(&rows))?;
@@ -98,7 +99,8 @@ impl<D: Disk, S: Source, K: Sink> Outside<D, S, K> {
     ) -> Result<(), Status>
         requires { IsOpen V.accepts (moment D.Disk S.Source K.Sink stored.old self.old) }
         ensures gossips { GossipsOn V.accepts D.Disk S.Source K.Sink stored.old stored.new self.old self.new result }
-        ensures exchanges { OnOk result (ExchangesOn V.accepts time S.Source self.old self.new stored.old stored.new) }
+        ensures exchanges { OnOk result
+            (ExchangesOn V.accepts asks_first time S.Source K.Sink stored.old stored.new self.old self.new) }
     {
         if asks_first {
             self.learn(stored, time)?;
@@ -117,7 +119,7 @@ impl<D: Disk, S: Source, K: Sink> Outside<D, S, K> {
         requires { IsOpen V.accepts (moment D.Disk S.Source K.Sink stored.old self.old) }
         ensures gossips { GossipsOn V.accepts D.Disk S.Source K.Sink stored.old stored.new self.old self.new result }
         ensures settles { OnOk result (ForSome stored.old.node (λ v. RelaysAll V.accepts asked.now
-            (S.left self.old.source) (S.left self.new.source) v stored.new.node)) }
+            (streams_of S.Source K.Sink self.old) (streams_of S.Source K.Sink self.new) v stored.new.node)) }
     {
         for i in 0..asked.exchanges {
             let time = asked.time.saturating_add(u64::from(i));

@@ -1,9 +1,9 @@
-use Rattle.std.proofs.Common.{refl, ap, length, arith, ◌∙◌}
+use Rattle.std.proofs.Common.{refl, ap, length, arith, rules, ◌∙◌}
 use Rattle.std.specs.Prelude.{Err, Ok}
 use Rattle.hg_wire.specs.declared.message.Want.TheVariants.{Rows}
 use Rattle.hg_top.specs.declared.status.Status.TheVariants.{Memory}
 use Rattle.relay.specs.Moments.{NoMemory, moment}
-use Rattle.relay.proofs.Passing.{fails, gossips_on, heard, heard_rows, passed_still, said}
+use Rattle.relay.proofs.Passing.{asks_then, fails, gossips_on, heard, passed_still, said}
 use Rattle.relay.proofs.gossip.Outside.ask.Goals as goal
 
 pub returns-in_err-tips-clause-gossips : goal.returns-in_err-tips-clause-gossips
@@ -26,8 +26,10 @@ returns-in_err-say-clause-gossips g c =
     let ended = said accepts g.D.Disk g.S.Source g.K.Sink c.args.stored.now out c.requires {X = Unit {0}} c.say.new.sink _ (Err status) c.in_err-say.ensures in
     fails accepts a b c.from_residual-in_err-say.result status c.from_residual-in_err-say.ensures.1 ended.0 ended.1
 
-pub returns-clause-heard : goal.returns-clause-heard
-returns-clause-heard g c = heard_rows g.S.Source c.args.self.now.source c.hear.new.source c.hear.result c.hear.ensures
+pub returns-clause-asks : goal.returns-clause-asks
+returns-clause-asks g c =
+    asks_then g.S.Source g.K.Sink c.args.stored.now.node c.unwrap-node.result.now c.from_vec.result c.args.self.now.source c.hear.new.source c.args.self.now.sink c.say.new.sink (search rules)
+    (c.from_vec.ensures ∙ c.in_ok-tips.ensures) c.in_ok-say.ensures.0.0 c.hear.result c.hear.ensures
 
 pub returns-clause-gossips : goal.returns-clause-gossips
 returns-clause-gossips g c =

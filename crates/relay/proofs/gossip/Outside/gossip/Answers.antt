@@ -3,17 +3,17 @@ use Rattle.std.specs.Prelude.{min}
 use Rattle.hg_keep.specs.Keeping.{IsSettledSome}
 use Rattle.hg_keep.specs.Stores.{open_error_of}
 use Rattle.hg_top.specs.Keeps.{open_status}
-use Rattle.relay.specs.Exchanges.{AreExchangesOf}
-use Rattle.relay.specs.Moments.{moment}
+use Rattle.relay.specs.Exchanges.{AreExchangesOf, streams_of}
+use Rattle.relay.specs.Moments.{moment, streams}
 use Rattle.relay.specs.Steps.{Settles}
 use Rattle.relay.proofs.Leading.{exchanges_more, exchanges_none, relays_all, relays_on, relays_settled, relays_still}
-use Rattle.relay.proofs.Passing.{cause_on, fails, opens, passed_on, passed_still, read_still, unkept, worked}
+use Rattle.relay.proofs.Passing.{cause_on, fails, opens, passed_on, passed_still, unkept, worked}
 use Rattle.relay.proofs.gossip.Outside.gossip.Goals as goal
 
 pub loop-i-init : goal.loop-i-init
 loop-i-init g c =
     let a = moment g.D.Disk g.S.Source g.K.Sink c.args.stored.now c.args.self.now in
-    record { passed = passed_still g.V.Verifier.accepts a c.requires; ready = c.requires; relays = relays_still g.V.Verifier.accepts c.args.stored.now.node; done = exchanges_none g.V.Verifier.accepts c.args.asked.now a.left c.args.stored.now.node (read_still a.left) }
+    record { passed = passed_still g.V.Verifier.accepts a c.requires; ready = c.requires; relays = relays_still g.V.Verifier.accepts c.args.stored.now.node; done = exchanges_none g.V.Verifier.accepts c.args.asked.now (streams a) c.args.stored.now.node }
 
 pub loop-i-preserved : goal.loop-i-preserved
 loop-i-preserved g c =
@@ -28,8 +28,8 @@ loop-i-preserved g c =
       passed = passed_on accepts a b last so_far.relays so_far.passed next.0;
       ready = next.1;
       relays = relays_on accepts a.stored.node b.stored.node last.stored.node so_far.relays next.2;
-      done = subst (λ (k : ℕ). AreExchangesOf accepts c.args.asked.now k a.left last.left a.stored.node last.stored.node) one_more (
-          exchanges_more accepts c.args.asked.now c.loop-i.i c.saturating_add-time.result a.left b.left last.left a.stored.node b.stored.node last.stored.node
+      done = subst (λ (k : ℕ). AreExchangesOf accepts c.args.asked.now k (streams a) (streams last) a.stored.node last.stored.node) one_more (
+          exchanges_more accepts c.args.asked.now c.loop-i.i c.saturating_add-time.result (streams a) (streams b) (streams last) a.stored.node b.stored.node last.stored.node
           (c.saturating_add-time.ensures ∙ ap (λ (n : ℕ). min (c.args.asked.now.time + n) (2 ^ 64 - 1)) c.from.ensures) so_far.done c.in_ok-exchange.ensures.exchanges);
     }
 
@@ -87,7 +87,8 @@ returns-clause-gossips g c =
 
 pub returns-clause-settles : goal.returns-clause-settles
 returns-clause-settles g c =
-    let S = g.S.Source in
-    relays_all g.V.Verifier.accepts c.args.asked.now (S.left c.args.self.now.source) (S.left c.loop-i.self.source) c.args.stored.now.node c.loop-i.stored.node c.settle.new.stored.node c.loop-i.invariant.relays
-    (subst (λ (n : ℕ). AreExchangesOf g.V.Verifier.accepts c.args.asked.now n (S.left c.args.self.now.source) (S.left c.loop-i.self.source) c.args.stored.now.node c.loop-i.stored.node) (omega arith) c.loop-i.invariant.done)
+    let first = streams_of g.S.Source g.K.Sink c.args.self.now in
+    let now = streams_of g.S.Source g.K.Sink c.loop-i.self in
+    relays_all g.V.Verifier.accepts c.args.asked.now first now c.args.stored.now.node c.loop-i.stored.node c.settle.new.stored.node c.loop-i.invariant.relays
+    (subst (λ (n : ℕ). AreExchangesOf g.V.Verifier.accepts c.args.asked.now n first now c.args.stored.now.node c.loop-i.stored.node) (omega arith) c.loop-i.invariant.done)
     c.in_ok-settle.ensures.settles

@@ -1,4 +1,4 @@
-use Rattle.relay.specs.Moments.{IsOpen, IsPassed, moment}
+use Rattle.relay.specs.Moments.{IsOpen, IsPassed, moment, streams}
 use Rattle.relay.specs.Exchanges.{AreExchangesOf}
 use Rattle.relay.specs.Steps.{RelaysOf}
 use Rattle.relay.proofs.gossip.Outside.gossip.Given as goal
@@ -12,5 +12,5 @@ invariant-loop-i g l =
       passed : IsPassed accepts first now;
       ready : IsOpen accepts now;
       relays : RelaysOf accepts l.fn.stored.node l.stored.node;
-      done : AreExchangesOf accepts l.fn.asked l.i first.left now.left l.fn.stored.node l.stored.node;
+      done : AreExchangesOf accepts l.fn.asked l.i (streams first) (streams now) l.fn.stored.node l.stored.node;
     }

@@ -2,9 +2,10 @@ use Rattle.std.proofs.Common.{Some}
 use Rattle.hg_keep.specs.Keeping.{IsMadeSome, IsPutSome}
 use Rattle.hg_keep.specs.Stores.{open_error_of}
 use Rattle.hg_top.specs.Keeps.{open_status}
+use Rattle.relay.specs.Exchanges.{streams_of}
 use Rattle.relay.specs.Moments.{moment}
 use Rattle.relay.specs.Steps.{Makes, Puts}
-use Rattle.relay.proofs.Leading.{exchanges_of, relays_on, relays_put, relays_turn, there_relays}
+use Rattle.relay.proofs.Leading.{learns_of, relays_on, relays_put, relays_turn, there_relays}
 use Rattle.relay.proofs.Passing.{cause_on, fails, opens, passed_on, unkept, worked}
 use Rattle.relay.proofs.gossip.Outside.learn.Goals as goal
 
@@ -104,7 +105,9 @@ returns-clause-gossips g c =
       relays_on accepts stored.node kept.node made.node all turn,
     )
 
-pub returns-clause-exchanges : goal.returns-clause-exchanges
-returns-clause-exchanges g c =
-    exchanges_of g.V.Verifier.accepts c.args.time (g.S.Source.left c.args.self.now.source) (g.S.Source.left c.ask.new.self.source) c.in_ok-rows.rows c.rows_of.result.now c.args.stored.now.node c.put_all.new.stored.node c.make_next.new.stored.node
-    c.in_ok-put_all.field-0 c.in_ok-make_next.field-0 c.in_ok-rows.ensures.heard c.rows_of.ensures c.in_ok-put_all.ensures.puts c.in_ok-make_next.ensures.turn
+pub returns-clause-learns : goal.returns-clause-learns
+returns-clause-learns g c =
+    let S = g.S.Source in
+    let T = g.K.Sink in
+    learns_of g.V.Verifier.accepts c.args.time (streams_of S T c.args.self.now) (streams_of S T c.ask.new.self) c.in_ok-rows.rows c.rows_of.result.now c.args.stored.now.node c.put_all.new.stored.node c.make_next.new.stored.node
+    c.in_ok-put_all.field-0 c.in_ok-make_next.field-0 c.in_ok-rows.ensures.asks c.rows_of.ensures c.in_ok-put_all.ensures.puts c.in_ok-make_next.ensures.turn
