@@ -40,6 +40,16 @@ SyncsJournal accepts start old new = ForSome old.reads (SyncsNode accepts start 
 abbrev pub SyncsOrFails : {K T : Type 0} → (K → Accepts) → Start K → FileView → FileView → Result T OpenError → Type 0
 SyncsOrFails accepts start old new r = SyncsJournal accepts start old new ⊎ (IsErrOf r Disk × Stays old new)
 
+-- a call started no file and wrote to none: what was started before still is
+pub record StartsNone (was is : List ℕ → Type 0) (old new : FileView) : Type 0 where
+  pub still : (other : List ℕ) → was other → is other
+  pub stays : Stays old new
+
+-- the file of this name is started, and no other since; or the disk failed before that was done
+abbrev pub StartsOrFails : {T : Type 0} → (List ℕ → Type 0) → (List ℕ → Type 0) → List ℕ → FileView → FileView
+    → Result T OpenError → Type 0
+StartsOrFails was is name old new r = is name ⊎ (IsErrOf r Disk × StartsNone was is old new)
+
 -- a file is written to only if it is to be made anew, where the disk tells it
 abbrev pub WritesOnlyAnew : List ℕ → FileView → FileView → Type 0
 WritesOnlyAnew head old new = ForSome old.reads (λ file. (AnewCases head file → ⊥) → Stays old new)

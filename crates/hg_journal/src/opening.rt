@@ -107,7 +107,7 @@ fn open_synced<V: Signer + Drop, D: Disk>(
 }
 
 impl<V: Signer + Drop> Stored<V> {
-    ghost use Rattle.hg_journal.specs.Opening.{SyncsOrFails};
+    ghost use Rattle.hg_journal.specs.Opening.{StartsOrFails, SyncsOrFails};
 
     /// Starts the file of this name, waits until it is kept, and opens the journal in it of the member `own`, or makes an
     /// empty one where none was made of it yet; else it writes nothing. The node is the one that comes again from the file's
@@ -138,6 +138,9 @@ impl<V: Signer + Drop> Stored<V> {
         // out.
         ensures refused { IfErr result (λ e. StaysUnlessDisk e (D.file disk.old) (D.file disk.new)) }
         ensures started { IfOk result (λ s. D.At disk.new s.name) }
+        // Whatever is answered, the file of this name is the one that is started then; or it could not be, and the one that was
+        // started before still is.
+        ensures begun { StartsOrFails (D.At disk.old) (D.At disk.new) name.now (D.file disk.old) (D.file disk.new) result }
         ensures cause { IsFaultCounted result OpenError.Disk (D.faults disk.old) (D.faults disk.new) name.now }
         ensures counts { (other : List ℕ) → D.faults disk.old other ≤ D.faults disk.new other }
     {
