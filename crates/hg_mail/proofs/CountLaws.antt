@@ -5,7 +5,7 @@ use lib.ListN.{get_elem?}
 use Rattle.atomic_table.specs.Table.{keeps, Allows, Splits, Joins, opening, step}
 use Rattle.atomic_table.proofs.Lists.{at_set}
 use Rattle.hg_mail.specs.declared.view.CountView.{CountView}
-use Rattle.hg_mail.specs.Count.{CountHand, Counts, after_part, came_back, coming_back, counting, first_count, joined_count, looked, one_part, raised, seeing, spent_count}
+use Rattle.hg_mail.specs.Count.{CountHand, Counts, after_part, came_back, collected, collecting, coming_back, counting, first_count, joined_count, looked, one_part, raised, seeing, spent_count}
 use Rattle.hg_mail.proofs.ListLaws.{alone_in_sum, each_one, each_push, each_set, sum_push, sum_set}
 
 abbrev parts_of : CountView → ℕ
@@ -93,26 +93,33 @@ looks slots id me s rule _ at _ =
       },
     )
 
+-- what a port notes of its own calls leaves the rest as it was
+module _ (slots id : ℕ) (me : CountHand) (new : CountView) (same_parts : new.parts ≡ me.0.parts) (same_mine : new.mine ≡ me.0.mine) (same_seen : new.seen ≡ me.0.seen) where
+  notes : Allows Counts slots id me 0 (λ n. n) (λ found n. n ≡ (new, me.1))
+  notes s rule _ at _ =
+      let old = me.0 in
+      let found : ℕ = slice_index s.words 0 in
+      let mine = sum_set mine_of s.views id old new at in
+      let same : sum_by mine_of s.views ≡ sum_by mine_of (set s.views id new) = omega (arith, mine, same_mine) in
+      let parts = sum_set parts_of s.views id old new at in (
+        new,
+        keeps,
+        tt,
+        record {
+          single = length_set s.words found rule.single;
+          word = head_set s.words found rule.single ∙ (rule.word ∙ ap wrapped same);
+          seen = each_set (SeesUpTo (sum_by mine_of (set s.views id new))) s.views id new (omega (arith, same, same_seen, rule.seen id old at)) (λ k n _ there. omega (arith, same, rule.seen k n there));
+          parts = omega (arith, rule.parts, parts, same_parts);
+          idle = each_set IsIdle s.views id new (λ none. same_mine ∙ rule.idle id old at (omega (arith, none, same_parts))) (λ k n _ there. rule.idle k n there);
+        },
+        refl,
+      )
+
 pub comes_back : (slots id : ℕ) (me : CountHand) → Allows Counts slots id me 0 (λ n. n) (came_back (step slots 0 0 0 none) me)
-comes_back slots id me s rule _ at _ =
-    let old = me.0 in
-    let new = coming_back old in
-    let found : ℕ = slice_index s.words 0 in
-    let mine = sum_set mine_of s.views id old new at in
-    let same : sum_by mine_of s.views ≡ sum_by mine_of (set s.views id new) = omega (arith, mine) in
-    let parts = sum_set parts_of s.views id old new at in (
-      new,
-      keeps,
-      tt,
-      record {
-        single = length_set s.words found rule.single;
-        word = head_set s.words found rule.single ∙ (rule.word ∙ ap wrapped same);
-        seen = each_set (SeesUpTo (sum_by mine_of (set s.views id new))) s.views id new (omega (arith, mine, rule.seen id old at)) (λ k n _ there. omega (arith, mine, rule.seen k n there));
-        parts = omega (arith, rule.parts, parts);
-        idle = each_set IsIdle s.views id new (rule.idle id old at) (λ k n _ there. rule.idle k n there);
-      },
-      refl,
-    )
+comes_back slots id me = notes slots id me (coming_back me.0) refl refl refl
+
+pub collects : (slots id : ℕ) (me : CountHand) → Allows Counts slots id me 0 (λ n. n) (collected (step slots 0 0 0 none) me)
+collects slots id me = notes slots id me (collecting me.0) refl refl refl
 
 -- a port is split: what the first one keeps and what the new one gets are together what was there
 module _ (id : ℕ) (old left right : CountView) (parts : left.parts + right.parts ≡ old.parts) (mine : left.mine + right.mine ≡ old.mine)

@@ -9,24 +9,24 @@ use Rattle.hg_mail.specs.declared.view.CountView.{CountView}
 abbrev pub all_parts : ℕ
 all_parts = 65536
 
-abbrev pub count_view : ℕ → ℕ → ℕ → ℕ → CountView
-count_view parts mine full seen = record { parts = parts; mine = mine; full = full; seen = seen }
+abbrev pub count_view : ℕ → ℕ → ℕ → ℕ → ℕ → CountView
+count_view parts mine full collects seen = record { parts = parts; mine = mine; full = full; collects = collects; seen = seen }
 
 abbrev pub first_count : CountView
-first_count = count_view all_parts 0 0 0
+first_count = count_view all_parts 0 0 0 0
 
 abbrev pub spent_count : CountView
-spent_count = count_view 0 0 0 0
+spent_count = count_view 0 0 0 0 0
 
 -- one part is given away
 abbrev pub after_part : CountView → CountView
 after_part n = record n { parts = n.parts - 1 }
 
 abbrev pub one_part : CountView
-one_part = count_view 1 0 0 0
+one_part = count_view 1 0 0 0 0
 
 abbrev pub joined_count : CountView → CountView → CountView
-joined_count n o = count_view (n.parts + o.parts) (n.mine + o.mine) (n.full + o.full) (max n.seen o.seen)
+joined_count n o = count_view (n.parts + o.parts) (n.mine + o.mine) (n.full + o.full) (n.collects + o.collects) (max n.seen o.seen)
 
 -- one more was counted by this port
 abbrev pub counting : CountView → CountView
@@ -35,6 +35,10 @@ counting n = record n { mine = n.mine + 1 }
 -- a message came back to this port
 abbrev pub coming_back : CountView → CountView
 coming_back n = record n { full = n.full + 1 }
+
+-- this port collected once more
+abbrev pub collecting : CountView → CountView
+collecting n = record n { collects = n.collects + 1 }
 
 -- so many were found
 abbrev pub seeing : CountView → ℕ → CountView
@@ -60,6 +64,10 @@ raised step m found n = n ≡ (counting m.0, m.1)
 -- a message came back
 abbrev pub came_back : Step (Option ℕ) → CountHand → ℕ → CountHand → Type 0
 came_back step m found n = n ≡ (coming_back m.0, m.1)
+
+-- the port collected
+abbrev pub collected : Step (Option ℕ) → CountHand → ℕ → CountHand → Type 0
+collected step m found n = n ≡ (collecting m.0, m.1)
 
 -- the count is read; with all parts it is what the port itself has counted
 pub record HasLooked (m : CountHand) (found : ℕ) (n : CountHand) : Type 0 where

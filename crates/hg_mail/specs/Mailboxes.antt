@@ -13,7 +13,7 @@ use Rattle.hg_mail.specs.declared.view.CountView.{CountView}
 use Rattle.hg_mail.specs.Messages as mail
 use Rattle.hg_mail.specs.Messages.{Puts, first_view, joined_view, spent_view}
 use Rattle.hg_mail.specs.Rule.{HeldAt}
-use Rattle.hg_mail.specs.Count.{after_part, first_count, joined_count, one_part, seeing, spent_count}
+use Rattle.hg_mail.specs.Count.{after_part, collecting, first_count, joined_count, one_part, seeing, spent_count}
 
 -- a mailbox: the tables of its queue and of its count, and for how many messages it has room
 pub record MailboxView : Type 0 where
@@ -74,12 +74,17 @@ after_looking p found = record p { count = seeing p.count found }
 abbrev pub after_taking : PortView → List Message → PortView
 after_taking p taken = record p { view = mail.after_taking p.view taken }
 
+-- .. by a call that collects, which the port counts
+abbrev pub after_collecting : PortView → List Message → PortView
+after_collecting p taken = record p { view = mail.after_taking p.view taken; count = collecting p.count }
+
 -- a message was put in, and counted
 pub record IsPosted (p : PortView) (message : Message) (q : PortView) : Type 0 where
   pub put : Puts p.view message q.view
   pub parts : q.count.parts ≡ p.count.parts
   pub mine : q.count.mine ≡ p.count.mine + 1
   pub full : q.count.full ≡ p.count.full
+  pub collects : q.count.collects ≡ p.count.collects
   pub seen : p.count.seen ≤ q.count.seen
 
 -- a message came back: the mailbox held as many as it has room for, and so many were put in and counted
@@ -93,6 +98,7 @@ pub record IsFull (room : ℕ) (p : PortView) (message : Message) (back : Messag
   pub view : q.view ≡ p.view
   pub parts : q.count.parts ≡ p.count.parts
   pub mine : q.count.mine ≡ p.count.mine
+  pub collects : q.count.collects ≡ p.count.collects
   pub seen : p.count.seen ≤ q.count.seen
 
 abbrev pub Answers : ℕ → PortView → Message → PostAnswer → PortView → Type 0

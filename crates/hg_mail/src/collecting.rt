@@ -1,17 +1,19 @@
 // How messages are taken out.
 ghost use Rattle.std.specs.Prelude.{◌≡◌, ◌<◌, ◌≤◌, true, IfOk, OnErr, OnOk, length};
 ghost use Rattle.crossbeam_queue.specs.Passes.{IsPassOf, IsSamePass, ruled_capacity, view};
+ghost use Rattle.hg_mail.specs.Count.{collecting};
 ghost use Rattle.hg_mail.specs.Messages.{IsEmptied, IsWhole, TakesSome, after_taking};
 ghost use Rattle.hg_mail.specs.Rule.{HeldAt};
 
+use crate::counting::note_collect;
 use crate::message::Message;
-use crate::rule::{MailPass, Queue, Take};
+use crate::rule::{CountSeat, MailPass, Queue, SharedCounter, Take};
 use hg_model::Memory;
 use std::alloc::Global;
 use std::sync::Wait;
 
 /// Takes out as many as there is room for, or fewer where the queue is empty. Without memory none.
-pub fn collect_by<R: Wait>(
+fn take_most<R: Wait>(
     rt: &R,
     alloc: Global,
     queue: &Queue,
@@ -33,6 +35,32 @@ pub fn collect_by<R: Wait>(
             None => return Ok(taken),
         }
     }
+    Ok(taken)
+}
+
+/// The same, and the seat counts it.
+pub fn collect_by<R: Wait>(
+    rt: &R,
+    alloc: Global,
+    queue: &Queue,
+    counter: &SharedCounter,
+    pass: &mut MailPass,
+    seat: &mut CountSeat,
+) -> Result<Vec<Message>, Memory>
+    requires pass { IsPassOf queue.now pass.old }
+    requires size { counter.now.table_id.words ≡ 1 }
+    requires table { seat.old.table_id ≡ counter.now.table_id }
+    requires takes { (view pass.old).takes ≡ true }
+    ensures pass { IsSamePass pass.old pass.new }
+    ensures table { seat.new.table_id ≡ seat.old.table_id }
+    ensures view { IfOk result (λ taken. view pass.new ≡ after_taking (view pass.old) taken.items) }
+    ensures most { IfOk result (λ taken. length taken.items ≤ ruled_capacity queue.now) }
+    ensures fewer { IfOk result (λ taken. length taken.items < ruled_capacity queue.now → HeldAt (view pass.new) 0) }
+    ensures counted { OnOk result (seat.new.me ≡ (collecting seat.old.me.0, seat.old.me.1)) }
+    ensures err { OnErr result ((view pass.new ≡ view pass.old) × (seat.new.me ≡ seat.old.me)) }
+{
+    let taken = take_most(rt, alloc, queue, pass)?;
+    note_collect(counter, seat);
     Ok(taken)
 }
 

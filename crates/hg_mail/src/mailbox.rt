@@ -2,7 +2,7 @@ ghost use Rattle.std.specs.Prelude.{◌≡◌, ◌<◌, ◌≤◌, ◌%◌, ◌^
 ghost use Rattle.hg_mail.specs.Messages.{HasPort, IsEmptied, IsWhole};
 ghost use Rattle.hg_mail.specs.Rule.{HeldAt};
 ghost use Rattle.hg_mail.specs.Count.{all_parts};
-ghost use Rattle.hg_mail.specs.Mailboxes.{IsPortOf, IsOpened, Posts, TakesSome, after_hand, after_issue, after_looking, after_taking, handed, issued, joined, spent};
+ghost use Rattle.hg_mail.specs.Mailboxes.{IsPortOf, IsOpened, Posts, TakesSome, after_collecting, after_hand, after_issue, after_looking, after_taking, handed, issued, joined, spent};
 
 use crate::collecting::{collect_by, drain_by};
 use crate::counting::look;
@@ -172,7 +172,7 @@ impl Mailbox {
     }
 
     /// Takes out as many messages as there is room for, oldest first, or fewer where the mailbox held none at a step of this
-    /// call. Without memory none.
+    /// call; the port counts that it did. Without memory none.
     pub fn collect<R: Wait>(
         &self,
         rt: &R,
@@ -181,13 +181,14 @@ impl Mailbox {
     ) -> Result<Vec<Message>, Memory>
         requires of { IsPortOf self.now port.old }
         requires takes { port.old.view.takes ≡ true }
-        ensures port { IfOk result (λ taken. port.new ≡ after_taking port.old taken.items) }
+        ensures port { IfOk result (λ taken. port.new ≡ after_collecting port.old taken.items) }
         ensures most { IfOk result (λ taken. length taken.items ≤ self.now.room) }
         ensures fewer { IfOk result (λ taken. length taken.items < self.now.room → HeldAt port.new.view 0) }
         ensures err { OnErr result (port.new ≡ port.old) }
     {
         let pass = &mut port.pass;
-        collect_by(rt, alloc, &self.queue, pass)
+        let seat = &mut port.seat;
+        collect_by(rt, alloc, &self.queue, &self.counter.shared, pass, seat)
     }
 
     /// Takes out all that is left: the mailbox held none at a step of this call. Then all is taken out that was put in by the

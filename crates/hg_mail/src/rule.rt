@@ -1,7 +1,7 @@
 // The rules of a mailbox's two halves, and what each kind of step tells its port.
 ghost use Rattle.hg_mail.specs.Messages.{Puts, Takes, after_issue, after_hand, first_view, issued, handed, joined_view, spent_view};
 ghost use Rattle.hg_mail.specs.Rule.{Delivers, IsAt};
-ghost use Rattle.hg_mail.specs.Count.{Counts, after_part, came_back, first_count, joined_count, looked, one_part, raised, spent_count};
+ghost use Rattle.hg_mail.specs.Count.{Counts, after_part, came_back, collected, first_count, joined_count, looked, one_part, raised, spent_count};
 
 use crate::message::Message;
 use crate::view::{CountView, View};
@@ -84,6 +84,13 @@ pub struct Back;
 
 impl Play<Option<u8>, CountView> for Back {
     ghost then = { came_back };
+}
+
+/// A port collected.
+pub struct Collect;
+
+impl Play<Option<u8>, CountView> for Collect {
+    ghost then = { collected };
 }
 
 /// The right of the next sender is given away.

@@ -21,7 +21,7 @@ pub struct View {
     pub senders: LinkedList<Sender>,
 }
 
-/// What a port knows of the count of all messages that were ever put in, and how often none could be.
+/// What a port knows of the count of all messages that were ever put in, and what it notes of its own calls.
 pub struct CountView {
     /// Its share of the right to know the whole count.
     pub parts: u64,
@@ -29,6 +29,8 @@ pub struct CountView {
     pub mine: u64,
     /// How often a message came back to it.
     pub full: u64,
+    /// How often it collected.
+    pub collects: u64,
     /// So many were counted in all, at least.
     pub seen: u64,
 }

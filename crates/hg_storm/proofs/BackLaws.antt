@@ -1,5 +1,5 @@
 -- Ports that come back, one member after the other
-use Rattle.std.proofs.Common.{◌≡◌, ◌≢◌, ⊎_elim, inl, inr, ℕ, zero, suc, ◌+◌, ◌<◌, ◌≤◌, nat_le, List, [], ◌∷◌, ◌++◌, length, take, drop, get_or, set, refl, sym, ap, ◌∙◌, subst, add-one, arith}
+use Rattle.std.proofs.Common.{◌≡◌, ◌≢◌, ⊎_elim, inl, inr, ℕ, zero, suc, ◌+◌, ◌<◌, ◌≤◌, Bool, nat_le, List, [], ◌∷◌, ◌++◌, length, take, drop, get_or, set, refl, sym, ap, ◌∙◌, subst, add-one, arith}
 use mathlib.Core.Logic.{dite}
 use native.Mathlib.Decide.{ℕ_discrete}
 use Rattle.std.proofs.lemmas.Bool.{le-leb, lt-leb, cases_lt}
@@ -8,7 +8,7 @@ use Rattle.hg_mail.specs.declared.message.Message.{Message}
 use Rattle.hg_mail.specs.declared.view.Sender.{Sender}
 use Rattle.hg_mail.specs.declared.view.View.{View}
 use Rattle.hg_mail.specs.declared.view.CountView.{CountView}
-use Rattle.hg_mail.specs.Count.{joined_count, one_part}
+use Rattle.hg_mail.specs.Count.{joined_count}
 use Rattle.hg_mail.specs.Messages.{joined_view, receiver_view, sender, sender_view}
 use Rattle.hg_mail.specs.Mailboxes.{IsPortOf, MailboxView, PortView, joined}
 use Rattle.hg_board.specs.Seats.{SharedNode}
@@ -17,11 +17,12 @@ use Rattle.hg_storm.specs.declared.plan.Plan.{Plan}
 use Rattle.hg_storm.specs.declared.sending.Dispatch.{Dispatch}
 use Rattle.hg_storm.specs.declared.desk.Job.{Job}
 use Rattle.hg_storm.specs.Keeping.{Secrets}
+use Rattle.hg_storm.specs.Receiving.{collector}
 use Rattle.hg_storm.specs.Sending.{bytes_seen, messages_from}
 use Rattle.hg_storm.specs.Turning.{HasServed}
 use Rattle.hg_storm.specs.Threads.{AreOpened, away, no_dispatch}
 use Rattle.hg_storm.proofs.SendLaws.{drop_next, drop_some}
-use Rattle.hg_storm.specs.Joins.{AreBack, AreGathered, ArePortsOf, HasSender, HasTurned, HaveTurned, IsBack, Tale, dispatch_to, due_back, put_by, put_to, tale_of}
+use Rattle.hg_storm.specs.Joins.{AreBack, AreGathered, ArePortsOf, HasSender, HasTurned, HaveTurned, IsBack, Tale, dispatch_to, due_back, full_to, known_back, put_by, put_to, tale_of}
 
 -- ---- lists
 
@@ -95,12 +96,15 @@ gathered me i mails olds ports news a inbox c g full inside a_is c_is =
 
 -- ---- what came back with them
 
--- a sender's port brings back what was put through it, one part, and where its mailbox was full, that so many were counted
+-- a sender's port brings back what was put through it, one part, how often a message came back, and where its mailbox was full,
+-- that so many were counted
 record Brings (me : ℕ) (put : List Message) (often : ℕ) (m : MailboxView) (q : PortView) : Type 0 where
   pub view : q.view ≡ sender_view me put
   pub parts : q.count.parts ≡ 1
   pub mine : q.count.mine ≡ length put
   pub full : 0 < often → m.room ≤ q.count.seen
+  pub back : q.count.full ≡ often
+  pub none : q.count.collects ≡ 0
 
 has_left : (s : Sender) (xs ys : List Sender) → HasSender s xs → HasSender s (xs ++ ys)
 has_left s [] ys has = absurd has
@@ -112,6 +116,9 @@ has_end s (x ∷ xs) = inr (has_end s xs)
 
 sum_next : (tale : Tale) (i k : ℕ) → put_to tale (i + 1) k ≡ put_to tale i k + length (tale.put i k)
 sum_next tale i k = ap (λ (z : ℕ). put_to tale z k) (add-one i)
+
+often_next : (tale : Tale) (i k : ℕ) → full_to tale (i + 1) k ≡ full_to tale i k + tale.full i k
+often_next tale i k = ap (λ (z : ℕ). full_to tale z k) (add-one i)
 
 module _ (tale : Tale) (n i k : ℕ) (m : MailboxView) (a b : PortView) (was : IsBack tale n i k m a) (part : Brings i (tale.put i k) (tale.full i k) m b) where
   -- all senders so far, and this one
@@ -130,9 +137,11 @@ module _ (tale : Tale) (n i k : ℕ) (m : MailboxView) (a b : PortView) (was : I
   -- the mailbox of another member
   back_other : (c : PortView) → k ≢ i → c ≡ joined a b → IsBack tale n (i + 1) k m c
   back_other c ne is =
-      let due : due_back (nat_le (i + 1) k) ≡ due_back (nat_le i k) = ap due_back (⊎_elim
+      let same : nat_le (i + 1) k ≡ nat_le i k = ⊎_elim
       (λ (lt : k < i). lt-leb (i + 1) k (omega (arith, lt)) ∙ sym (lt-leb i k lt))
-      (λ (le : i ≤ k). le-leb (i + 1) k (omega (arith, le, ne)) ∙ sym (le-leb i k le)) (cases_lt k i)) in
+      (λ (le : i ≤ k). le-leb (i + 1) k (omega (arith, le, ne)) ∙ sym (le-leb i k le)) (cases_lt k i) in
+      let due : due_back (nat_le (i + 1) k) ≡ due_back (nat_le i k) = ap due_back same in
+      let known : known_back (nat_le (i + 1) k) (tale.collects k) ≡ known_back (nat_le i k) (tale.collects k) = ap (λ (b : Bool). known_back b (tale.collects k)) same in
       subst (IsBack tale n (i + 1) k m) (sym is) (record {
         of = was.of;
         gives = ap (λ (w : View). (joined_view a.view w).gives) part.view ∙ was.gives;
@@ -143,16 +152,22 @@ module _ (tale : Tale) (n i k : ℕ) (m : MailboxView) (a b : PortView) (was : I
         parts = omega (arith, was.parts, part.parts, due);
         mine = omega (arith, was.mine, part.mine, sum_next tale i k);
         full = full_next (joined_count a.count b.count).seen (omega arith) (omega arith);
+        often = omega (arith, was.often, part.back, often_next tale i k);
+        collects = omega (arith, was.collects, part.none, known);
       })
 
   -- the member's own, with its receiver's port
-  back_own : (inbox c : PortView) → k ≡ i → inbox.view ≡ receiver_view (tale.taken i) → inbox.count ≡ one_part → c ≡ joined (joined a b) inbox → IsBack tale n (i + 1) k m c
+  back_own : (inbox c : PortView) → k ≡ i → inbox.view ≡ receiver_view (tale.taken i) → inbox.count ≡ collector (tale.collects i) → c ≡ joined (joined a b) inbox → IsBack tale n (i + 1) k m c
   back_own inbox c same view count is =
       let was_due : due_back (nat_le i k) ≡ 1 = ap due_back (le-leb i k (omega (arith, same))) in
       let now_due : due_back (nat_le (i + 1) k) ≡ 0 = ap due_back (lt-leb (i + 1) k (omega (arith, same))) in
       let v : View = joined_view a.view b.view in
       let box_parts : inbox.count.parts ≡ 1 = ap (λ (x : CountView). x.parts) count in
       let box_mine : inbox.count.mine ≡ 0 = ap (λ (x : CountView). x.mine) count in
+      let box_full : inbox.count.full ≡ 0 = ap (λ (x : CountView). x.full) count in
+      let box_collects : inbox.count.collects ≡ tale.collects k = ap (λ (x : CountView). x.collects) count ∙ ap tale.collects (sym same) in
+      let unknown : known_back (nat_le i k) (tale.collects k) ≡ 0 = ap (λ (z : Bool). known_back z (tale.collects k)) (le-leb i k (omega (arith, same))) in
+      let known : known_back (nat_le (i + 1) k) (tale.collects k) ≡ tale.collects k = ap (λ (z : Bool). known_back z (tale.collects k)) (lt-leb (i + 1) k (omega (arith, same))) in
       subst (IsBack tale n (i + 1) k m) (sym is) (record {
         of = was.of;
         gives = ap (λ (w : View). (joined_view v w).gives) view ∙ (ap (λ (w : View). (joined_view a.view w).gives) part.view ∙ was.gives);
@@ -163,12 +178,14 @@ module _ (tale : Tale) (n i k : ℕ) (m : MailboxView) (a b : PortView) (was : I
         parts = omega (arith, was.parts, part.parts, box_parts, was_due, now_due);
         mine = omega (arith, was.mine, part.mine, box_mine, sum_next tale i k);
         full = full_next (joined_count (joined_count a.count b.count) inbox.count).seen (omega arith) (omega arith);
+        often = omega (arith, was.often, part.back, box_full, often_next tale i k);
+        collects = omega (arith, was.collects, part.none, box_collects, unknown, known);
       })
 
 -- the ports of one member more are back
 back_one : (tale : Tale) (n i : ℕ) (mails : List MailboxView) (olds ports : List PortView) (inbox : PortView) (news : List PortView) → AreBack tale n i mails olds → AreGathered i mails olds ports inbox news →
     ((k : ℕ) (m : MailboxView) (q : PortView) → k < length mails → Brings i (tale.put i k) (tale.full i k) (get_or mails k m) (get_or ports k q)) →
-    inbox.view ≡ receiver_view (tale.taken i) → inbox.count ≡ one_part → AreBack tale n (i + 1) mails news
+    inbox.view ≡ receiver_view (tale.taken i) → inbox.count ≡ collector (tale.collects i) → AreBack tale n (i + 1) mails news
 back_one tale n i mails olds ports inbox news back g brings view count = record {
   count = g.of.count;
   each = λ k m q inside.
@@ -187,7 +204,8 @@ back_none tale mails masters opened = record {
   each = λ k m q inside.
       let x = opened.each k m q inside in
       let one : away (nat_le (length mails) k) ≡ 1 = ap away (lt-leb (length mails) k inside) in
-      let two : due_back (nat_le 0 k) ≡ 1 = ap due_back (le-leb 0 k (omega arith)) in record {
+      let two : due_back (nat_le 0 k) ≡ 1 = ap due_back (le-leb 0 k (omega arith)) in
+      let unknown : known_back (nat_le 0 k) (tale.collects k) ≡ 0 = ap (λ (z : Bool). known_back z (tale.collects k)) (le-leb 0 k (omega arith)) in record {
         of = x.of;
         gives = ap (λ (w : View). w.gives) x.view;
         next = ap (λ (w : View). w.next) x.view;
@@ -197,6 +215,8 @@ back_none tale mails masters opened = record {
         parts = omega (arith, x.parts, one, two);
         mine = x.mine;
         full = λ j none. absurd (omega arith);
+        often = x.back;
+        collects = x.collects ∙ sym unknown;
       };
 }
 
@@ -212,6 +232,8 @@ served_brings plan own me place turns k rows m d q same s = record {
   parts = s.sent.part;
   mine = s.sent.mine ∙ sym (length-messages me 0 (take d.sent rows) ∙ length-take-le d.sent rows s.sent.within);
   full = s.full;
+  back = s.back;
+  none = s.sent.none;
 }
 
 module _ (plan : Plan) (mails : List MailboxView) (p : SharedNode Secrets) (i : ℕ) (j : Job) (turned : HasTurned plan mails p i j) where
@@ -228,6 +250,9 @@ module _ (plan : Plan) (mails : List MailboxView) (p : SharedNode Secrets) (i : 
   turned_view : (m : MailboxView) → j.desk.inbox.view ≡ receiver_view j.desk.log.intake.taken.items
   turned_view m = (turned.stands.inbox m).view
 
+  turned_count : j.desk.inbox.count ≡ collector j.desk.inbox.count.collects
+  turned_count = turned.stands.alone ∙ ap collector (sym (ap (λ (x : CountView). x.collects) turned.stands.alone))
+
 pub back_next : (mails : List MailboxView) (places : List (SharedNode Secrets)) (jobs : List Job) (i : ℕ) (j : Job) (olds news : List PortView) → HaveTurned mails places jobs → i < length jobs → j ≡ get_or jobs i j →
     AreGathered i mails olds j.desk.ports.items j.desk.inbox news → ((p : SharedNode Secrets) (d : Job) → AreBack (tale_of places jobs p d) (length mails) i mails olds) →
     (p : SharedNode Secrets) (d : Job) → AreBack (tale_of places jobs p d) (length mails) (i + 1) mails news
@@ -238,4 +263,4 @@ back_next mails places jobs i j olds news h inside j_is g back p d =
     let gathered : AreGathered i mails olds there.desk.ports.items there.desk.inbox news = subst (λ (x : Job). AreGathered i mails olds x.desk.ports.items x.desk.inbox news) is g in
     first_of _ mails (omega (arith, inside, h.jobs_count)) (λ m.
     back_one (tale_of places jobs p d) (length mails) i mails olds there.desk.ports.items there.desk.inbox news (back p d) gathered
-    (turned_brings h.plan mails (get_or places i p) i there t) (turned_view h.plan mails (get_or places i p) i there t m) t.stands.alone)
+    (turned_brings h.plan mails (get_or places i p) i there t) (turned_view h.plan mails (get_or places i p) i there t m) (turned_count h.plan mails (get_or places i p) i there t))

@@ -3,7 +3,7 @@ use Rattle.std.specs.Prelude.{IfOk, OnOk, Vec}
 use Rattle.std.proofs.Common.{◌≡◌, ◌≢◌, inl, inr, ⊎_elim, ℕ, ◌+◌, ◌<◌, ◌≤◌, nat_eq, nat_le, true, Result, Ok, Err, List, [], ◌∷◌, ◌++◌, length, drop, map, get_or, set, refl, sym, ap, ◌∙◌, subst, arith}
 use Rattle.std.specs.List.{AllByRecursion}
 use Rattle.std.proofs.lemmas.Bool.{lt-leb}
-use Rattle.std.proofs.lemmas.List.{append-nil, append_assoc, get_or-map, get_or-set_other, get_or_default, length-append, length-map, length-set, length_push, nil_from_length}
+use Rattle.std.proofs.lemmas.List.{append-nil, append_assoc, get_or-map, get_or-set_other, get_or-set_same, get_or_default, length-append, length-map, length-set, length_push, nil_from_length}
 use Rattle.std.proofs.lemmas.List.Elements.{filter-append}
 use Rattle.hg_life.specs.Signing.{accepts_by}
 use Rattle.hg_mail.specs.declared.message.Message.{Message}
@@ -25,7 +25,7 @@ use Rattle.hg_storm.specs.Keeping.{Secrets}
 use Rattle.hg_storm.specs.Threads.{AreOpened}
 use Rattle.hg_storm.proofs.SendLaws.{drop_some}
 use Rattle.hg_storm.proofs.BackLaws.{back_next, back_none, first_of, next_at}
-use Rattle.hg_storm.specs.Joins.{AreAbsorbed, AreBack, AreEmptied, AreGathered, ArePortsOf, Empties, EmptyAll, HasSender, HasTurned, HaveTurned, IsBack, TakeOut, Tale, due_back, put_to, tale_of}
+use Rattle.hg_storm.specs.Joins.{AreAbsorbed, AreBack, AreEmptied, AreGathered, ArePortsOf, Empties, EmptyAll, HasEmptied, HasSender, HasTurned, HaveEmptied, HaveTurned, IsBack, TakeOut, Tale, due_back, put_to, tale_of}
 
 -- ---- all ports are back
 
@@ -58,6 +58,17 @@ empties m p q r counted (Ok left) looked whole takes taken none all room =
       known = from_senders (after_taking p.view left.items) takes (subst (λ (w : View). HeldAt w 0) view none);
       whole = λ parts. let seen = whole parts in let is = ap (λ (x : PortView). x.count.seen) looked in omega (arith, seen, is);
       few = λ all_back. room (subst IsWhole (sym (ap (λ (x : PortView). x.view) looked)) all_back);
+    }
+
+-- .. and what it then knows
+pub emptied_port : {Z E : Type 0} (p q r : PortView) (counted : ℕ) (result : Result (Vec Message Z) E) → q ≡ mailbox.after_looking p counted → IfOk result (λ (left : Vec Message Z). r ≡ mailbox.after_taking q left.items) →
+    IfOk result (λ (left : Vec Message Z). HasEmptied p left.items r)
+emptied_port p q r counted (Err e) looked taken = tt
+emptied_port p q r counted (Ok left) looked taken =
+    let is : r ≡ mailbox.after_taking (mailbox.after_looking p counted) left.items = taken ∙ ap (λ (x : PortView). mailbox.after_taking x left.items) looked in record {
+      taken = ap (λ (x : PortView). x.view.taken) is;
+      back = ap (λ (x : PortView). x.count.full) is;
+      collects = ap (λ (x : PortView). x.count.collects) is;
     }
 
 -- of one of the senders
@@ -220,6 +231,7 @@ pub record Emptying {Z : Type 0} (i : ℕ) (mails : List MailboxView) (olds news
   pub left_count : length left ≡ i
   pub still : (k : ℕ) (q : PortView) → i ≤ k → get_or news k q ≡ get_or olds k q
   pub each : (k : ℕ) (q : PortView) (l : Vec Message Z) → k < i → (m : MailboxView) → Empties (get_or mails k m) (get_or olds k q) (get_or left k l).items
+  pub ports : (k : ℕ) (q r : PortView) (l : Vec Message Z) → k < i → HasEmptied (get_or olds k q) (get_or left k l).items (get_or news k r)
 
 module _ {Z : Type 0} where
   -- the port that is read next is as it was
@@ -227,8 +239,8 @@ module _ {Z : Type 0} where
   emptying_read i mails olds news left q e is = is ∙ e.still i q (omega arith)
 
   pub emptying_one : (i : ℕ) (mails : List MailboxView) (olds news : List PortView) (left : List (Vec Message Z)) (box : MailboxView) (q r : PortView) (rest : Vec Message Z) → Emptying i mails olds news left → i < length mails →
-      i < length olds → box ≡ get_or mails i box → q ≡ get_or news i q → Empties box q rest.items → Emptying (i + 1) mails olds (set news i r) (left ++ rest ∷ [])
-  emptying_one i mails olds news left box q r rest e box_in inside box_is is empties = record {
+      i < length olds → box ≡ get_or mails i box → q ≡ get_or news i q → Empties box q rest.items → HasEmptied q rest.items r → Emptying (i + 1) mails olds (set news i r) (left ++ rest ∷ [])
+  emptying_one i mails olds news left box q r rest e box_in inside box_is is empties emptied = record {
     count = length-set news i r ∙ e.count;
     left_count = omega (arith, length_push left rest, e.left_count);
     still = λ k d above. let ne : k ≢ i = (λ x. absurd (omega (arith, x, above))) in get_or-set_other news i k r d ne ∙ e.still k d (omega (arith, above));
@@ -237,6 +249,13 @@ module _ {Z : Type 0} where
         (subst (λ (x : MailboxView × PortView). Empties x.0 x.1 rest.items)
         (λ z. ((box_is ∙ get_or_default mails i box m box_in) z, (emptying_read i mails olds news left q e is ∙ get_or_default olds i q d inside) z)) empties))
         (λ z x z_in. e.each z d x (omega (arith, z_in, e.left_count)) m) k l (omega (arith, below, e.left_count));
+    ports = λ k d n l below. push_at (λ (z : ℕ) (x : Vec Message Z). HasEmptied (get_or olds z d) x.items (get_or (set news i r) z n)) left rest
+        (subst (λ (z : ℕ). HasEmptied (get_or olds z d) rest.items (get_or (set news i r) z n)) (sym e.left_count)
+        (subst (λ (x : PortView × PortView). HasEmptied x.0 rest.items x.1)
+        (λ z. ((emptying_read i mails olds news left q e is ∙ get_or_default olds i q d inside) z, sym (get_or-set_same news i r n (omega (arith, inside, e.count))) z)) emptied))
+        (λ z x z_in.
+        let ne : z ≢ i = (λ y. absurd (omega (arith, y, z_in, e.left_count))) in
+        subst (HasEmptied (get_or olds z d) (get_or left z x).items) (sym (get_or-set_other news i z r n ne)) (e.ports z d n x (omega (arith, z_in, e.left_count)))) k l (omega (arith, below, e.left_count));
   }
 
   -- all are
@@ -245,3 +264,6 @@ module _ {Z : Type 0} where
     count = omega (arith, e.left_count, all, same);
     each = λ k q l inside m. e.each k q l (omega (arith, inside, all, same)) m;
   }
+
+  pub emptied_ports : (i : ℕ) (mails : List MailboxView) (olds news : List PortView) (left : List (Vec Message Z)) → Emptying i mails olds news left → i ≡ length mails → length olds ≡ length mails → HaveEmptied olds left news
+  emptied_ports i mails olds news left e all same = record { count = e.count; each = λ k q r l inside. e.ports k q r l (omega (arith, inside, all, same)) }

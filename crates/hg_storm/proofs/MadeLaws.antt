@@ -23,7 +23,7 @@ use Rattle.hg_history.proofs.StateLaws.{prefix_more}
 use Rattle.hg_mail.specs.declared.message.Message.{Message}
 use Rattle.hg_board.specs.Positions.{AreBelow}
 use Rattle.hg_board.specs.Seats.{SharedNode, SeatView, seen_by}
-use Rattle.hg_board.specs.Calls.{SeatMakesNext, SeatPuts}
+use Rattle.hg_board.specs.Calls.{SeatMakesNext, SeatPuts, SeatWaits}
 use Rattle.hg_board.specs.Laws.{AddsNone, AddsOne}
 use Rattle.hg_board.proofs.ChangeLaws.{other_puts_add_none, puts_add_one}
 use Rattle.hg_board.proofs.PrefixLaws.{prefix_length}
@@ -107,6 +107,13 @@ from_past m n (e ∷ es) le = (le, from_past m (suc n) es (omega (arith, le)))
 pub get_end : (h : List Change) (e : Change) → slice_get (h ++ e ∷ []) (length h) ≡ Some e
 get_end [] e = refl
 get_end (x ∷ h) e = get_end h e
+
+-- a call that waited added nothing
+pub waits_none : {V : Type 0} (accepts : V → Accepts) (p : SharedNode V) (s t : SeatView V) → SeatWaits accepts p s t → AddsNone s t
+waits_none {V} accepts p s t waits = record {
+  begins = (waits.others, ap (λ (x : Seen V). x.node.history) waits.later);
+  mine = ap (λ (x : Seen V). x.positions) waits.later;
+}
 
 module _ {V : Type 0} (s t : SeatView V) (below : AreBelow (length s.seen) s.mine) where
   pub none_made : AddsNone s t → AddsNoRow s t

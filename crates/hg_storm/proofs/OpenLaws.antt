@@ -44,6 +44,8 @@ opened_first room k m q opened =
       view = opened.view ∙ ap (opened_view 0) (sym first);
       parts = subst (λ (b : Bool). q.count.parts + 0 + away b ≡ all_parts) (sym first) (omega (arith, ap (λ (c : CountView). c.parts) opened.count));
       mine = ap (λ (c : CountView). c.mine) opened.count;
+      back = ap (λ (c : CountView). c.full) opened.count;
+      collects = ap (λ (c : CountView). c.collects) opened.count;
     }
 
 -- so many mailboxes are open
@@ -99,6 +101,8 @@ issued_first me k m q new few first is = subst (IsFirstPort (me + 1) me k m) (sy
   view = ap mail.after_issue first.view;
   parts = omega (arith, first.parts, first_parts me me k m q few first);
   mine = first.mine;
+  back = first.back;
+  collects = first.collects;
 })
 
 new_sender : (me bound k : ℕ) (m : MailboxView) (q port : PortView) → IsFirstPort me bound k m q → port ≡ issued q → IsNewSender me m port
@@ -183,6 +187,8 @@ bound_moved me j m q ne first = record {
   view = first.view ∙ ap (opened_view (me + 1)) (same_bound me j ne);
   parts = subst (λ (b : Bool). q.count.parts + (me + 1) + away b ≡ all_parts) (same_bound me j ne) first.parts;
   mine = first.mine;
+  back = first.back;
+  collects = first.collects;
 }
 
 module _ (me : ℕ) (mails : List MailboxView) (masters : List PortView) (m : MailboxView) (q : PortView) (opened : AreIssued me mails masters) (inside : me < length mails) (few : length mails ≤ 128)
@@ -213,6 +219,8 @@ module _ (me : ℕ) (mails : List MailboxView) (masters : List PortView) (m : Ma
         view = ap mail.after_hand own_first.view ∙ ap (opened_view (me + 1)) (sym gone);
         parts = subst (λ (b : Bool). (q.count.parts - 1) + (me + 1) + away b ≡ all_parts) (sym gone) less;
         mine = own_first.mine;
+        back = own_first.back;
+        collects = own_first.collects;
       })
 
   pub hand_all : (new : PortView) → new ≡ after_hand q → AreOpened (me + 1) mails (set masters me new)
@@ -309,6 +317,7 @@ served_none plan place own rows k m q new = record {
     within = omega arith;
     part = ap (λ (c : CountView). c.parts) new.count;
     mine = ap (λ (c : CountView). c.mine) new.count;
+    none = ap (λ (c : CountView). c.collects) new.count;
   };
   counted = record {
     drawn = λ no. absurd (omega (arith, no));

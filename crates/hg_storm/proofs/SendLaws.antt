@@ -81,6 +81,7 @@ sends_none from place p = record {
   put = λ put is. is ∙ ap (sender_view from) (sym (append-nil put));
   parts = refl;
   mine = omega arith;
+  collects = refl;
   seen = omega arith;
 }
 
@@ -96,6 +97,7 @@ sends_one from place rows bytes p q r sends posted =
           ∙ ap (sender_view from) (append_assoc put (messages_from from place rows) (m ∷ []) ∙ ap (λ (ms : List Message). put ++ ms) (sym (messages_from-append from place rows (bytes ∷ []))));
       parts = posted.parts ∙ sends.parts;
       mine = omega (arith, posted.mine, sends.mine, length_push rows bytes);
+      collects = posted.collects ∙ sends.collects;
       seen = omega (arith, posted.seen, sends.seen);
     }
   where
@@ -109,6 +111,7 @@ sends_still room from place rows m back p q r sends full = record {
   put = λ put is. full.view ∙ sends.put put is;
   parts = full.parts ∙ sends.parts;
   mine = full.mine ∙ sends.mine;
+  collects = full.collects ∙ sends.collects;
   seen = omega (arith, full.seen, sends.seen);
 }
 
@@ -152,10 +155,15 @@ sent_more m from rows piece place most k p q sent is le of sends =
       within = omega (arith, le, whole, long, rest, sent.within);
       part = sends.parts ∙ sent.part;
       mine = omega (arith, sends.mine, sent.mine, length-take-le k piece le);
+      none = sends.collects ∙ sent.none;
     }
   where
     place_is : (xs : List (List ℕ)) (n : ℕ) → length xs ≡ n → n ≡ 0 + length xs
     place_is xs n e = omega (arith, e)
+
+-- as many as the port has counted
+pub as_counted : (m : MailboxView) (from : ℕ) (rows : List (List ℕ)) (sent : ℕ) (q : PortView) → HasSent m from rows sent q → HasSent m from rows q.count.mine q
+as_counted m from rows sent q has = subst (λ (n : ℕ). HasSent m from rows n q) (sym has.mine) has
 
 -- the node goes on
 
@@ -224,7 +232,11 @@ module _ {V : Type 0} (p : SharedNode V) where
         within = omega (arith, has.within, rows_longer s t first);
         part = has.part;
         mine = has.mine;
+        none = has.none;
       }
+
+  pub counted_later : (s t : SeatView V) (m : MailboxView) (from sent : ℕ) (q : PortView) → IsPrefix s.seen t.seen → HasSent m from (bytes_seen p s) sent q → HasSent m from (bytes_seen p t) q.count.mine q
+  counted_later s t m from sent q first has = as_counted m from (bytes_seen p t) sent q (sent_later s t m from sent q first has)
 
   -- the bytes of a piece of rows are a piece of their bytes
   piece_is : (t : SeatView V) (piece : List (List ℕ)) (place most : ℕ) → piece ≡ bytes_from (node_at p.start t.seen) place most → piece ≡ take most (drop place (bytes_seen p t))

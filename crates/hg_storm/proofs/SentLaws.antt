@@ -1,12 +1,14 @@
 -- The mails by names alone: what each member sent each other, and what all sent to one
-use Rattle.std.proofs.Common.{◌≡◌, ℕ, zero, suc, ◌+◌, ◌<◌, ◌≤◌, cond, eqb, List, [], length, take, map, get_or, sum_by, refl, sym, ap, ◌∙◌, subst, arith}
+use Rattle.std.proofs.Common.{◌≡◌, ℕ, zero, suc, ◌+◌, ◌<◌, ◌≤◌, cond, eqb, nat_eq, List, [], ◌++◌, length, take, map, get_or, sum_by, refl, sym, ap, ◌∙◌, subst, arith}
 use Rattle.std.specs.Prelude.{All}
 use Rattle.std.specs.Global.{Vec}
 use Rattle.std.proofs.lemmas.List.{get_or_default, get_or-map, length-map, length-take-le}
+use Rattle.std.proofs.lemmas.List.Elements.{filter-append}
 use Rattle.hg_life.specs.Members.{MemberList}
 use Rattle.hg_life.specs.NodeView.{NodeView}
 use Rattle.hg_mail.specs.declared.message.Message.{Message}
 use Rattle.hg_mail.specs.Messages.{AreFrom, messages_of}
+use Rattle.hg_mail.specs.Mailboxes.{PortView}
 use Rattle.hg_mail.proofs.MessageLaws.{count_all, count_from}
 use Rattle.hg_crowd.proofs.ListLaws.{some_of}
 use Rattle.hg_storm.specs.declared.desk.Log.{Log}
@@ -15,13 +17,14 @@ use Rattle.hg_storm.specs.declared.plan.Plan.{Plan}
 use Rattle.hg_storm.specs.declared.sending.Dispatch.{Dispatch}
 use Rattle.hg_storm.specs.declared.threads.Joined.{Joined}
 use Rattle.hg_storm.specs.Drawing.{circle_of}
-use Rattle.hg_storm.specs.Joins.{AreTold, IsSentTo, dispatch_to, put_to, rows_of_node, sum_below, tale_told}
+use Rattle.hg_storm.specs.Joins.{AreTold, HaveCollected, IsSentTo, dispatch_to, full_to, put_to, rows_of_node, sum_below, tale_told}
 use Rattle.hg_storm.specs.Keeping.{Secrets}
-use Rattle.hg_storm.specs.Mails.{AreMails, AreMailsOf, IsMail, IsMailIn, IsToldMail, dispatch_of, names_in, names_left, names_to, pair_of, pairs_in}
+use Rattle.hg_storm.specs.Mails.{AreMails, AreMailsOf, IsCollected, IsMail, IsMailIn, IsToldMail, dispatch_of, names_back, names_in, names_left, names_to, pair_of, pairs_in}
 use Rattle.hg_storm.proofs.BackLaws.{length-messages}
 use Rattle.hg_storm.proofs.CircleLaws.{are_peers, circle_rises, in_pair, sum_in_all, sum_in_pairs, sum_of_map, sums_same}
 use Rattle.hg_storm.proofs.MailLaws.{all_back}
-use Rattle.hg_storm.proofs.NameLaws.{has_drawn}
+use Rattle.hg_storm.proofs.MessageNameLaws.{has_drawn}
+use Rattle.hg_storm.proofs.ToldLaws.{sum_same}
 
 -- how many messages are of the first senders, each counted for itself
 sum_of_senders : (n : ℕ) (ms : List Message) → sum_below n (λ j. length (messages_of j ms)) ≡ count_from n ms
@@ -42,7 +45,7 @@ module _ (members : MemberList) (room : ℕ) (joined : Joined) (plan : Plan) (to
   module _ (v : NodeView Secrets) (g : Log) (l : Vec Message) where
     -- how many rows one put into the mailbox of another
     abbrev many : ℕ → ℕ → ℕ
-    many j k = length ((tale_told nodes logs v g).put j k)
+    many j k = length ((tale_told plan nodes logs v g).put j k)
 
     many_is : (j k : ℕ) → j < length nodes → k < length nodes → many j k ≡ (dispatch_to (get_or logs j g) k).sent
     many_is j k j_in k_in =
@@ -53,7 +56,7 @@ module _ (members : MemberList) (room : ℕ) (joined : Joined) (plan : Plan) (to
     long m d took rest names t = ap length t.sent ∙ length-take-le d.sent names t.within
 
     -- what all sent to one is what the mails to it have
-    all_sent : (k : ℕ) → k < length nodes → put_to (tale_told nodes logs v g) (length nodes) k ≤ names_to mails k
+    all_sent : (k : ℕ) → k < length nodes → put_to (tale_told plan nodes logs v g) (length nodes) k ≡ names_to mails k
     all_sent k k_in =
         let counts : Mail → ℕ = λ (m : Mail). cond (eqb m.to k) (length m.sent.items) 0 in
         let each : All (λ (m : Mail). counts m ≡ in_pair plan.circle.items many k (pair_of m)) mails = λ x d x_in.
@@ -67,7 +70,35 @@ module _ (members : MemberList) (room : ℕ) (joined : Joined) (plan : Plan) (to
         ∙ (sym (sum_of_map (in_pair plan.circle.items many k) pair_of mails) ∙ ap (sum_by (in_pair plan.circle.items many k)) are.pairs) in
         let within = sum_in_pairs plan.circle.items many k (length nodes) below (λ j j_in some.
         are_peers members plan circle_is j k (has_drawn plan room nodes logs left told v g l j k j_in k_in (omega (arith, some, many_is j k j_in k_in)))) in
-        omega (arith, within, by_pairs)
+        let over = sum_in_all plan.circle.items many k (length nodes) (circle_rises members plan.circle.items circle_is) below in
+        omega (arith, within, over, by_pairs)
+
+    -- how often one came back from another's mailbox
+    abbrev often : ℕ → ℕ → ℕ
+    often j k = (dispatch_to (get_or logs j g) k).full
+
+    all_full : (k : ℕ) → k < length nodes → full_to (tale_told plan nodes logs v g) (length nodes) k ≡ names_back mails k
+    all_full k k_in =
+        let counts : Mail → ℕ = λ (m : Mail). cond (eqb m.to k) m.full 0 in
+        let each : All (λ (m : Mail). counts m ≡ in_pair plan.circle.items often k (pair_of m)) mails = λ x d x_in.
+        let m : Mail = get_or mails x d in
+        ap (λ (n : ℕ). cond (eqb m.to k) n 0) ((are.each x d x_in).mail v g l).full in
+        let by_pairs : names_back mails k ≡ sum_by (in_pair plan.circle.items often k) (pairs_in plan.circle.items) =
+        sums_same counts (λ (m : Mail). in_pair plan.circle.items often k (pair_of m)) mails each
+        ∙ (sym (sum_of_map (in_pair plan.circle.items often k) pair_of mails) ∙ ap (sum_by (in_pair plan.circle.items often k)) are.pairs) in
+        let within = sum_in_pairs plan.circle.items often k (length nodes) below (λ j j_in some.
+        are_peers members plan circle_is j k ((told.sent j k v g j_in k_in).counted.drawn (omega (arith, some)))) in
+        let over = sum_in_all plan.circle.items often k (length nodes) (circle_rises members plan.circle.items circle_is) below in
+        omega (arith, within, over, by_pairs)
+
+    -- all that was taken out of one's mailbox, then and at last
+    all_out : (k : ℕ) → k < length nodes → length ((get_or logs k g).intake.taken.items ++ (get_or left k l).items) ≡ names_to mails k
+    all_out k k_in =
+        let took : List Message = (get_or logs k g).intake.taken.items in
+        let rest : List Message = (get_or left k l).items in
+        let each : put_to (tale_told plan nodes logs v g) (length nodes) k ≡ sum_below (length nodes) (λ j. length (messages_of j (took ++ rest))) =
+        sum_same (length nodes) _ _ (λ j low. ap length (told.mail j k v g l low k_in ∙ sym (filter-append (λ (m : Message). nat_eq m.from j) took rest))) in
+        sym (count_all (length nodes) (took ++ rest) (told.known k g l k_in)) ∙ (sym (sum_of_senders (length nodes) (took ++ rest)) ∙ (sym each ∙ all_sent k k_in))
 
     -- how many messages of one the mailbox of another had left
     abbrev rest_of : ℕ → ℕ → ℕ
@@ -122,3 +153,11 @@ module _ (members : MemberList) (room : ℕ) (joined : Joined) (plan : Plan) (to
         sym (ap (λ (ns : List ℕ). get_or ns m.from i) idle_is ∙ get_or-map (λ (h : Log). h.idle) logs m.from g i (omega (arith, t.from, told.logs_count))) in
         subst (λ (n : ℕ). IsMail plan room mails (get_or nodes m.from v) n m) none (mail_is v g l x m x_in (get_or_default mails x d m x_in));
   }
+
+  pub are_collected : (ports : List PortView) → HaveCollected plan nodes logs left ports → (k : ℕ) (q : PortView) → k < length nodes → IsCollected plan mails k (get_or ports k q)
+  are_collected ports collected k q k_in =
+      let v : NodeView Secrets = some_of nodes k k_in in
+      let g : Log = some_of logs k (omega (arith, k_in, told.logs_count)) in
+      let l : Vec Message = some_of left k (omega (arith, k_in, told.left_count)) in
+      let its = collected.each k v g l q k_in in
+      record { collects = its.collects; back = its.back ∙ all_full v g l k k_in; out = ap length its.taken ∙ all_out v g l k k_in }

@@ -1,30 +1,24 @@
--- What became of each member: the rows that it made, what came of its messages, and what it sent
-use Rattle.std.proofs.Common.{◌≡◌, ◌≢◌, ◌⊎◌, ⊎_elim, ℕ, zero, suc, ◌+◌, ◌<◌, ◌≤◌, Bool, true, false, cond, eqb, eq-eqb, List, [], ◌∷◌, ◌++◌, length, map, take, drop, get_or, fold, Some, refl, sym, ap, ◌∙◌, subst, arith}
+-- What became of each member: what came of its messages, and what it sent
+use Rattle.std.proofs.Common.{◌≡◌, ℕ, zero, suc, ◌+◌, ◌<◌, ◌≤◌, nat_le, Bool, true, List, [], ◌++◌, length, map, take, drop, get_or, refl, sym, ap, ◌∙◌, subst, arith}
 use Rattle.std.specs.Prelude.{All, Vec, count_by}
-use Rattle.std.specs.List.{AllByRecursion}
 use mathlib.Core.Logic.{dite}
 use native.Mathlib.Decide.{ℕ_discrete}
-use Rattle.std.proofs.lemmas.Bool.{true≢false}
-use Rattle.std.proofs.lemmas.List.Sums.{sum_by-append, sum_by-cons}
+use Rattle.std.proofs.lemmas.Bool.{lt-leb, true≢false}
 use Rattle.std.proofs.lemmas.List.{get_or-map, length-map, length-take, length-take-le, take-append-drop}
-use Rattle.hg_model.specs.declared.row.Row.{Row}
 use Rattle.hg_model.specs.Orders.{IsPrefix}
-use Rattle.hg_model.specs.Stakes.{Stakes}
-use Rattle.hg_life.specs.History.{AreSteps, Change, State, empty, replay, step, with_marks, with_row}
-use Rattle.hg_life.specs.History.Change.{Took, Made, Marked}
+use Rattle.hg_life.specs.History.{Change, empty}
 use Rattle.hg_life.specs.NodeView.{IsNode, NodeView, node_rows, terms_of}
 use Rattle.hg_life.specs.Signing.{accepts_by}
-use Rattle.hg_life.specs.Terms.{Terms}
 use Rattle.hg_life.specs.Spelling.{spelling}
-use Rattle.hg_history.proofs.RuleLaws.{taken_is}
 use Rattle.hg_mail.specs.declared.message.Message.{Message}
+use Rattle.hg_mail.specs.declared.view.CountView.{CountView}
 use Rattle.hg_mail.specs.Messages.{AreFrom, messages_of}
 use Rattle.hg_mail.specs.Mailboxes.{MailboxView, PortView}
 use Rattle.hg_board.specs.Positions.{AreBelow, times}
 use Rattle.hg_board.specs.Table.{node_at}
 use Rattle.hg_board.specs.Seats.{SharedNode, SeatView}
 use Rattle.hg_board.specs.Calls.{Absorbs, IsStarted, IsWhole}
-use Rattle.hg_board.proofs.PositionLaws.{below_more, times-append, times_apart, times_cons, times_none}
+use Rattle.hg_board.proofs.PositionLaws.{below_more, times-append}
 use Rattle.hg_board.proofs.PrefixLaws.{prefix_length, prefix_of_prefix}
 use Rattle.hg_crowd.specs.Crowd.{IsEnded, IsMark}
 use Rattle.hg_crowd.specs.Workers.{AreWhole}
@@ -40,160 +34,16 @@ use Rattle.hg_storm.specs.Keeping.{Secrets, is_made, rows_made, rows_made_in}
 use Rattle.hg_storm.specs.Sending.{bytes_seen}
 use Rattle.hg_storm.specs.Threads.{HaveRoom, no_dispatch, place_of, turns_of}
 use Rattle.hg_storm.specs.Turning.{HadRows, HasCounted, IsCounted, WasDue, own_rows, rows_by}
-use Rattle.hg_storm.specs.Joins.{AreAbsorbed, AreEmptied, AreTold, EmptyAll, IsSentTo, IsTold, TakeOut, dispatch_to, put_by, put_to, rows_of_node, sum_below, tale_of, tale_told}
+use Rattle.hg_storm.specs.Joins.{AreAbsorbed, AreEmptied, AreTold, EmptyAll, HasCollected, HasEmptied, HaveCollected, HaveEmptied, IsBack, IsSentTo, IsTold, TakeOut, Tale, dispatch_to, full_to, known_back, put_by, put_to, rows_of_node, sum_below, tale_of, tale_told}
 use Rattle.hg_storm.proofs.BackLaws.{first_of}
 use Rattle.hg_storm.proofs.CloseLaws.{all_are_emptied}
 use Rattle.hg_storm.proofs.EndLaws.{fates_last}
 use Rattle.hg_storm.proofs.FateLaws.{take_later}
 use Rattle.hg_storm.proofs.MadeLaws.{is_made_in, made_front}
+use Rattle.hg_storm.proofs.OwnRowLaws.{made_all, made_in, made_then, own_made, steps_first, times_between}
 use Rattle.hg_storm.proofs.ThreadLaws.{AreJoined, IsDone, absorbed_at, done_at, news_count}
 use Rattle.hg_storm.proofs.DueLaws.{due_later, idle_later, then_same}
 use Rattle.hg_storm.proofs.TurnRowLaws.{all_turned}
-
--- ---- the rows of a node's own member are those that its history made
-
--- how many changes made a row
-abbrev made_in : List Change → ℕ
-made_in h = count_by (λ (e : Change). is_made (Some e)) h
-
-made_cons : (e : Change) (h : List Change) → made_in (e ∷ h) ≡ cond (is_made (Some e)) 1 0 + made_in h
-made_cons e h = sum_by-cons (λ (x : Change). cond (is_made (Some x)) 1 0) e h
-
-module _ (own : ℕ) (G : List Row) (row : Row) where
-  abbrev one_if : Row → ℕ
-  one_if r = cond (eqb r.creator own) 1 0
-
-  by_push : rows_by own (G ++ row ∷ []) ≡ rows_by own G + one_if row
-  by_push =
-      let all : rows_by own (G ++ row ∷ []) ≡ rows_by own G + rows_by own (row ∷ []) = sum_by-append one_if G (row ∷ []) in
-      let last : rows_by own (row ∷ []) ≡ one_if row + 0 = sum_by-cons one_if row [] in
-      omega (arith, all, last)
-
-  by_other : row.creator ≢ own → rows_by own (G ++ row ∷ []) ≡ rows_by own G
-  by_other ne = let none : one_if row ≡ 0 = times_apart own row.creator ne in omega (arith, by_push, none)
-
-  by_itself : row.creator ≡ own → rows_by own (G ++ row ∷ []) ≡ rows_by own G + 1
-  by_itself is = let one : one_if row ≡ 1 = ap (λ (b : Bool). cond b 1 0) (eq-eqb row.creator own is) in omega (arith, by_push, one)
-
-module _ (terms : Terms) (n : Stakes) (c own : ℕ) where
-  own_from : (s : State) (h : List Change) → AreSteps terms n c own s h → rows_by own (fold (step n c) s h).rows ≡ rows_by own s.rows + made_in h
-  own_from s [] steps = let none : made_in [] ≡ 0 = refl in omega (arith, none)
-  own_from s (Took row ∷ h) steps =
-      let rest : rows_by own (fold (step n c) (with_row n s row) h).rows ≡ rows_by own (s.rows ++ row ∷ []) + made_in h = own_from (with_row n s row) h steps.1 in
-      let more : made_in (Took row ∷ h) ≡ 0 + made_in h = made_cons (Took row) h in
-      omega (arith, rest, more, by_other own s.rows row (taken_is terms n own s.rows row steps.0).by_other)
-  own_from s (Made row ∷ h) steps =
-      let rest : rows_by own (fold (step n c) (with_row n s row) h).rows ≡ rows_by own (s.rows ++ row ∷ []) + made_in h = own_from (with_row n s row) h steps.1 in
-      let more : made_in (Made row ∷ h) ≡ 1 + made_in h = made_cons (Made row) h in
-      omega (arith, rest, more, by_itself own s.rows row (ap (λ (r : Row). r.creator) steps.0.fields))
-  own_from s (Marked len share ∷ h) steps =
-      let rest : rows_by own (fold (step n c) (with_marks n c s len share) h).rows ≡ rows_by own s.rows + made_in h = own_from (with_marks n c s len share) h steps.1 in
-      let more : made_in (Marked len share ∷ h) ≡ 0 + made_in h = made_cons (Marked len share) h in
-      omega (arith, rest, more)
-
-  own_made : (h : List Change) → AreSteps terms n c own empty h → rows_by own (replay n c h).rows ≡ made_in h
-  unfolding replay
-  own_made h steps =
-      let all : rows_by own (fold (step n c) empty h).rows ≡ rows_by own [] + made_in h = own_from empty h steps in
-      let none : rows_by own [] ≡ 0 = refl in
-      omega (arith, all, none)
-
-  -- the first of some changes may come
-  steps_first : (at : ℕ) (s : State) (h : List Change) → AreSteps terms n c own s h → AreSteps terms n c own s (take at h)
-  steps_first zero s h steps = tt
-  steps_first (suc at) s [] steps = tt
-  steps_first (suc at) s (e ∷ h) steps = (steps.0, steps_first at (step n c s e) h steps.1)
-
--- ---- positions of a history that each stand in a list at most once
-
-assoc : (a b c : ℕ) → (a + b) + c ≡ a + (b + c)
-assoc a b c = omega arith
-
--- how many of the first positions pass a test
-abbrev passing : ℕ → (ℕ → Bool) → ℕ
-passing zero f = 0
-passing (suc n) f = passing n f + cond (f n) 1 0
-
-passing_on : (n : ℕ) (f : ℕ → Bool) → passing (suc n) f ≡ cond (f 0) 1 0 + passing n (λ q. f (suc q))
-passing_on zero f = omega arith
-passing_on (suc n) f = ap (λ (k : ℕ). k + cond (f (suc n)) 1 0) (passing_on n f) ∙ assoc (cond (f 0) 1 0) (passing n (λ q. f (suc q))) (cond (f (suc n)) 1 0)
-
-made_passing : (n : ℕ) (h : List Change) → length h ≤ n → passing n (is_made_in h) ≡ made_in h
-made_passing zero [] all = refl
-made_passing zero (e ∷ h) all = absurd (omega (arith, all))
-made_passing (suc n) [] all = let rest : passing n (is_made_in []) ≡ made_in [] = made_passing n [] (omega arith) in omega (arith, rest)
-made_passing (suc n) (e ∷ h) all =
-    passing_on n (is_made_in (e ∷ h)) ∙ (ap (λ (k : ℕ). cond (is_made (Some e)) 1 0 + k) (made_passing n h (omega (arith, all))) ∙ sym (made_cons e h))
-
--- of each of the first positions that passes, how often it stands in a list
-abbrev standing : ℕ → (ℕ → Bool) → List ℕ → ℕ
-standing zero f qs = 0
-standing (suc n) f qs = standing n f qs + cond (f n) (times n qs) 0
-
-standing_none : (n : ℕ) (f : ℕ → Bool) → standing n f [] ≡ 0
-standing_none zero f = refl
-standing_none (suc n) f = both (standing n f []) (times n []) (f n) (standing_none n f) (times_none n)
-  where
-    both : (a k : ℕ) (b : Bool) → a ≡ 0 → k ≡ 0 → a + cond b k 0 ≡ 0
-    both a k true first second = omega (arith, first, second)
-    both a k false first second = omega (arith, first)
-
-standing_past : (n : ℕ) (f : ℕ → Bool) (q : ℕ) (qs : List ℕ) → n ≤ q → standing n f (q ∷ qs) ≡ standing n f qs
-standing_past zero f q qs past = refl
-standing_past (suc n) f q qs past =
-    let apart = times_apart n q (λ e. let same : q ≡ n = e in omega (arith, same, past)) in
-    let other : times n (q ∷ qs) ≡ times n qs = omega (arith, times_cons n q qs, apart) in
-    λ i. standing_past n f q qs (omega (arith, past)) i + cond (f n) (other i) 0
-
-standing_one : (n : ℕ) (f : ℕ → Bool) (q : ℕ) (qs : List ℕ) → q < n → standing n f (q ∷ qs) ≡ cond (f q) 1 0 + standing n f qs
-standing_one zero f q qs low = absurd (omega (arith, low))
-standing_one (suc n) f q qs low = dite (ℕ_discrete q n)
-    (λ e.
-    let same : q ≡ n = e in
-    let one : ◌≡◌ {A = ℕ} (cond (eqb q n) 1 0) 1 = ap (λ (b : Bool). cond b 1 0) (eq-eqb q n same) in
-    let more : times n (q ∷ qs) ≡ 1 + times n qs = omega (arith, times_cons n q qs, one) in
-    let front : standing n f (q ∷ qs) ≡ standing n f qs = standing_past n f q qs (omega (arith, same)) in
-    (λ i. front i + cond (f n) (more i) 0) ∙ (put (standing n f qs) (f n) (times n qs) ∙ ap (λ (k : ℕ). cond (f k) 1 0 + standing (suc n) f qs) (sym same)))
-    (λ ne.
-    let other : times n (q ∷ qs) ≡ times n qs = omega (arith, times_cons n q qs, times_apart n q ne) in
-    (λ i. standing_one n f q qs (omega (arith, low, ne)) i + cond (f n) (other i) 0) ∙ assoc (cond (f q) 1 0) (standing n f qs) (cond (f n) (times n qs) 0))
-  where
-    put : (s : ℕ) (b : Bool) (k : ℕ) → s + cond b (1 + k) 0 ≡ cond b 1 0 + (s + cond b k 0)
-    put s true k = omega arith
-    put s false k = omega arith
-
-count_standing : (n : ℕ) (f : ℕ → Bool) (qs : List ℕ) → AreBelow n qs → count_by f qs ≡ standing n f qs
-count_standing n f [] below = sym (standing_none n f)
-count_standing n f (q ∷ qs) below =
-    sum_by-cons (λ (y : ℕ). cond (f y) 1 0) q qs ∙ (ap (λ (k : ℕ). cond (f q) 1 0 + k) (count_standing n f qs below.1) ∙ sym (standing_one n f q qs below.0))
-
-standing_passing : (n : ℕ) (f : ℕ → Bool) (qs : List ℕ) → ((q : ℕ) → q < n → f q ≡ true → times q qs ≡ 1) → standing n f qs ≡ passing n f
-standing_passing zero f qs once = refl
-standing_passing (suc n) f qs once =
-    let last : ◌≡◌ {A = ℕ} (cond (f n) (times n qs) 0) (cond (f n) 1 0) = one (f n) (times n qs) (once n (omega arith)) in
-    λ i. standing_passing n f qs (λ q low. once q (omega (arith, low))) i + last i
-  where
-    one : (b : Bool) (k : ℕ) → (b ≡ true → k ≡ 1) → ◌≡◌ {A = ℕ} (cond b k 0) (cond b 1 0)
-    one true k is = is refl
-    one false k is = refl
-
--- no position between two bounds stands in a list that has none of them
-times_between : (at when q : ℕ) (qs : List ℕ) → AllByRecursion (λ p. (p < at) ⊎ (when ≤ p)) qs → at ≤ q → q < when → times q qs ≡ 0
-times_between at when q [] alone past low = times_none q
-times_between at when q (p ∷ qs) alone past low =
-    let apart : p ≢ q = λ e. (let same : p ≡ q = e in ⊎_elim (λ (early : p < at). absurd (omega (arith, early, past, same))) (λ (late : when ≤ p). absurd (omega (arith, late, low, same))) alone.0) in
-    omega (arith, times_cons q p qs, times_apart q p apart, times_between at when q qs alone.1 past low)
-
--- where each change that made a row stands once in a list of positions, these are as many
-made_all : (n : ℕ) (h : List Change) (qs : List ℕ) → length h ≤ n → AreBelow n qs → ((q : ℕ) → q < n → is_made_in h q ≡ true → times q qs ≡ 1) → count_by (is_made_in h) qs ≡ made_in h
-made_all n h qs all below once = count_standing n (is_made_in h) qs below ∙ (standing_passing n (is_made_in h) qs once ∙ made_passing n h all)
-
--- what made a row among the first changes did so
-made_then : (at : ℕ) (h : List Change) (q : ℕ) → is_made_in (take at h) q ≡ true → is_made_in h q ≡ true
-made_then zero h q made = absurd (true≢false (sym made))
-made_then (suc at) [] q made = absurd (true≢false (sym made))
-made_then (suc at) (e ∷ h) zero made = made
-made_then (suc at) (e ∷ h) (suc q) made = made_then at h q made
 
 -- ---- one member
 
@@ -300,7 +150,7 @@ module _ (plan : Plan) (mails : List MailboxView) (k : ℕ) (p : SharedNode Secr
 
 -- ---- all of them
 
-sum_same : (n : ℕ) (f g : ℕ → ℕ) → ((j : ℕ) → j < n → f j ≡ g j) → sum_below n f ≡ sum_below n g
+pub sum_same : (n : ℕ) (f g : ℕ → ℕ) → ((j : ℕ) → j < n → f j ≡ g j) → sum_below n f ≡ sum_below n g
 sum_same zero f g same = refl
 sum_same (suc n) f g same = λ i. sum_same n f g (λ j low. same j (omega (arith, low))) i + same n (omega arith) i
 
@@ -355,7 +205,7 @@ module _ {Z : Type 0} (plan : Plan) (room : ℕ) (mails : List MailboxView) (nod
   some_job k inside = some_of news k (omega (arith, inside, jobs_count))
 
   -- what the first ports know is what nodes and logs tell
-  put_same : (j k : ℕ) (p : SharedNode Secrets) (d : Job) (v : NodeView Secrets) (g : Log) → j < length ends → (tale_of places news p d).put j k ≡ (tale_told ends logs v g).put j k
+  put_same : (j k : ℕ) (p : SharedNode Secrets) (d : Job) (v : NodeView Secrets) (g : Log) → j < length ends → (tale_of places news p d).put j k ≡ (tale_told plan ends logs v g).put j k
   put_same j k p d v g inside = λ i. put_by j (rows_at j p v d inside i) (log_is j g d inside i) k
 
   module _ (j k : ℕ) (v : NodeView Secrets) (g : Log) (j_in : j < length ends) (k_in : k < length ends) where
@@ -368,7 +218,7 @@ module _ {Z : Type 0} (plan : Plan) (room : ℕ) (mails : List MailboxView) (nod
     taker_in : k < length mails
     taker_in = omega (arith, k_in, mails_count)
 
-    mail_told : (l : Vec Message Z) → (tale_told ends logs v g).put j k ≡ messages_of j (get_or logs k g).intake.taken.items ++ messages_of j (get_or left k l).items
+    mail_told : (l : Vec Message Z) → (tale_told plan ends logs v g).put j k ≡ messages_of j (get_or logs k g).intake.taken.items ++ messages_of j (get_or left k l).items
     mail_told l =
         sym (put_same j k (some_place j j_in) (some_job j j_in) v g j_in)
         ∙ (rest.mail j k l sender_in taker_in ∙ ap (λ (log : Log). messages_of j log.intake.taken.items ++ messages_of j (get_or left k l).items) (log_is k g (some_job j j_in) k_in))
@@ -382,17 +232,50 @@ module _ {Z : Type 0} (plan : Plan) (room : ℕ) (mails : List MailboxView) (nod
         let fits : (get_or mails k m).room ≡ room = rooms k m taker_in in
         omega (arith, rest.few k l m taker_in, fits)
 
-    full_told : 0 < (dispatch_to (get_or logs j g) k).full → room ≤ put_to (tale_told ends logs v g) (length ends) k
+    full_told : 0 < (dispatch_to (get_or logs j g) k).full → room ≤ put_to (tale_told plan ends logs v g) (length ends) k
     full_told often =
         let m : MailboxView = some_of mails k taker_in in
         let some : 0 < (dispatch_to (get_or news j (some_job j j_in)).desk.log k).full = subst (λ (log : Log). 0 < (dispatch_to log k).full) (sym (log_is j g (some_job j j_in) j_in)) often in
         let held : (get_or mails k m).room ≤ put_to (tale_of places news (some_place j j_in) (some_job j j_in)) (length mails) k = rest.full j k m sender_in taker_in some in
         let fits : (get_or mails k m).room ≡ room = rooms k m taker_in in
-        let sums : put_to (tale_of places news (some_place j j_in) (some_job j j_in)) (length ends) k ≡ put_to (tale_told ends logs v g) (length ends) k =
+        let sums : put_to (tale_of places news (some_place j j_in) (some_job j j_in)) (length ends) k ≡ put_to (tale_told plan ends logs v g) (length ends) k =
         sum_same (length ends) _ _ (λ i low. ap length (put_same i k (some_place j j_in) (some_job j j_in) v g low)) in
-        let whole_sum : put_to (tale_of places news (some_place j j_in) (some_job j j_in)) (length mails) k ≡ put_to (tale_told ends logs v g) (length ends) k =
+        let whole_sum : put_to (tale_of places news (some_place j j_in) (some_job j j_in)) (length mails) k ≡ put_to (tale_told plan ends logs v g) (length ends) k =
         ap (λ (n : ℕ). put_to (tale_of places news (some_place j j_in) (some_job j j_in)) n k) mails_count ∙ sums in
         omega (arith, held, fits, whole_sum)
+
+  -- what the first ports have counted, once all is out
+  module _ (k : ℕ) (v : NodeView Secrets) (g : Log) (inside : k < length ends) where
+    abbrev its_tale : Tale
+    its_tale = tale_of places news (some_place k inside) (some_job k inside)
+
+    collects_same : its_tale.collects k ≡ turns_of plan k
+    collects_same = ap (λ (n : CountView). n.collects) (its_turns k (some_place k inside) v (some_job k inside) inside).stands.alone
+
+    often_same : full_to its_tale (length mails) k ≡ full_to (tale_told plan ends logs v g) (length ends) k
+    often_same =
+        ap (λ (n : ℕ). full_to its_tale n k) mails_count
+        ∙ sum_same (length ends) _ _ (λ i low. ap (λ (log : Log). (dispatch_to log k).full) (log_is i g (some_job k inside) low))
+
+    port_told : (l : Vec Message Z) (m : MailboxView) (q r : PortView) → IsBack its_tale (length mails) (length mails) k m q → HasEmptied q (get_or left k l).items r →
+        HasCollected (tale_told plan ends logs v g) (length ends) k (get_or left k l).items r
+    port_told l m q r back out =
+        let low : k < length mails = omega (arith, inside, mails_count) in
+        let known : known_back (nat_le (length mails) k) (its_tale.collects k) ≡ its_tale.collects k = ap (λ (b : Bool). known_back b (its_tale.collects k)) (lt-leb (length mails) k low) in record {
+          collects = out.collects ∙ (back.collects ∙ (known ∙ collects_same));
+          back = out.back ∙ (back.often ∙ often_same);
+          taken = out.taken ∙ ap (λ (ms : List Message). ms ++ (get_or left k l).items) (back.taken low ∙ ap (λ (log : Log). log.intake.taken.items) (log_is k g (some_job k inside) inside));
+        }
+
+  pub have_collected : (ports : List PortView) → HaveEmptied masters left ports → HaveCollected plan ends logs left ports
+  have_collected ports out = record {
+    count = omega (arith, out.count, takes.count, mails_count);
+    each = λ k v g l q inside.
+        let low : k < length mails = omega (arith, inside, mails_count) in
+        let m : MailboxView = some_of mails k low in
+        port_told k v g inside l (get_or mails k m) (get_or masters k q) (get_or ports k q) ((absorbed.back (some_place k inside) (some_job k inside)).each k m q low)
+        (out.each k q q l (omega (arith, low, takes.count)));
+  }
 
   pub are_told : AreTold plan room ends logs left
   are_told = record {

@@ -12,6 +12,7 @@ use Rattle.hg_life.specs.Signing.{accepts_by}
 use Rattle.hg_gossip.specs.Holding.{positions_from}
 use Rattle.hg_mail.specs.declared.message.Message.{Message}
 use Rattle.hg_mail.specs.declared.view.View.{View}
+use Rattle.hg_mail.specs.Count.{collecting}
 use Rattle.hg_mail.specs.Messages.{after_taking, receiver_view}
 use Rattle.hg_mail.specs.Mailboxes.{IsPortOf, MailboxView, PortView}
 use Rattle.hg_board.specs.Positions.{AreBelow}
@@ -86,7 +87,7 @@ inbox_on m old new p q is takes = record {
 module _ (plan : Plan) (place : ℕ) (mails : List MailboxView) (p : SharedNode Secrets) (drawn made me : ℕ) (log log_now : Log) (s t u : SeatView Secrets) (ports : List PortView) (inbox inbox_now : PortView)
     (old : Standing plan place mails p drawn made me log s ports inbox) (m : MailboxView) (m_is : m ≡ get_or mails me m)
     (still : IsStill s t) (keeps : KeepsSeat accepts_by p s t) (no_row : AddsNoRow s t)
-    (box : IsInbox m log_now.intake.taken.items inbox_now) (count : inbox_now.count ≡ inbox.count)
+    (box : IsInbox m log_now.intake.taken.items inbox_now) (count : inbox_now.count ≡ collecting inbox.count)
     (fates : HasFates accepts_by p t log_now.intake.taken.items log_now.intake.refused.items)
     (stays : Stays accepts_by p t u) (b : Bool) (has : HasMade p t (made + 1) u b)
     (dispatches : log_now.dispatches.items ≡ log.dispatches.items) (idle : log_now.idle ≡ log.idle + cond b 0 1) where
@@ -171,7 +172,7 @@ module _ (plan : Plan) (place : ℕ) (mails : List MailboxView) (p : SharedNode 
     seat = record { of = stays.of; begun = stays.begun; within = stays.within; node = stays.node };
     fates = making_keeps Secrets accepts_by p t u (made + 1) has.answer has.next log_now.intake.taken.items log_now.intake.refused.items fates;
     inbox = λ m'. subst (λ (x : MailboxView). IsInbox x log_now.intake.taken.items inbox_now) (m_is ∙ get_or_default mails me m m' old.me) box;
-    alone = count ∙ old.alone;
+    alone = count ∙ ap collecting old.alone;
     served = subst (λ (ds : List Dispatch). HasServedAll plan me place drawn (bytes_seen p u) mails ds ports) (sym dispatches) (all_later plan me place p s u first drawn mails log.dispatches.items ports old.served);
     room = old.room;
     some = λ _. some_rows p t u (made + 1) has.answer has.next old.room;

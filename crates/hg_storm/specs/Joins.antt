@@ -22,11 +22,13 @@ use Rattle.hg_storm.specs.Ends.{EndsWithFates}
 use Rattle.hg_storm.specs.Turning.{AreIdle, AreTurnRows, HadRows, IsCounted, Stands, WasDue, own_rows, rows_by}
 use Rattle.hg_storm.specs.Threads.{Pairs, no_dispatch, place_of, turns_of}
 
--- what members did, by their numbers: what each put into each one's mailbox, and how often that was full; and what each took
+-- what members did, by their numbers: what each put into each one's mailbox, and how often that was full; what each took, and
+-- how often it collected
 pub record Tale : Type 0 where
   pub put : ℕ → ℕ → List Message
   pub full : ℕ → ℕ → ℕ
   pub taken : ℕ → List Message
+  pub collects : ℕ → ℕ
 
 -- the sum of the first values
 abbrev pub sum_below : ℕ → (ℕ → ℕ) → ℕ
@@ -36,6 +38,10 @@ sum_below (suc n) f = sum_below n f + f n
 -- how many messages the first members put into a mailbox
 abbrev pub put_to : Tale → ℕ → ℕ → ℕ
 put_to tale n k = sum_below n (λ j. length (tale.put j k))
+
+-- how often messages of the first members came back from it
+abbrev pub full_to : Tale → ℕ → ℕ → ℕ
+full_to tale n k = sum_below n (λ j. tale.full j k)
 
 -- what a log tells of the rows that were sent to member k
 abbrev pub dispatch_to : Log → ℕ → Dispatch
@@ -50,6 +56,7 @@ tale_of places jobs p d = record {
   put = λ j k. put_by j (bytes_seen (get_or places j p) (get_or jobs j d).desk.seat) (get_or jobs j d).desk.log k;
   full = λ j k. (dispatch_to (get_or jobs j d).desk.log k).full;
   taken = λ k. (get_or jobs k d).desk.log.intake.taken.items;
+  collects = λ k. (get_or jobs k d).desk.inbox.count.collects;
 }
 
 -- the sender is one of these
@@ -60,6 +67,10 @@ HasSender s (x ∷ xs) = (x ≡ s) ⊎ HasSender s xs
 -- one part is still to come back with the receiver's port
 abbrev pub due_back : Bool → ℕ
 due_back later = cond later 1 0
+
+-- how often the receiver collected is known once its port is back
+abbrev pub known_back : Bool → ℕ → ℕ
+known_back later n = cond later 0 n
 
 -- of n members the ports of the first ones are back in the first port of the mailbox of member k
 pub record IsBack (tale : Tale) (n back k : ℕ) (m : MailboxView) (q : PortView) : Type 0 where
@@ -72,6 +83,8 @@ pub record IsBack (tale : Tale) (n back k : ℕ) (m : MailboxView) (q : PortView
   pub parts : q.count.parts + n + due_back (nat_le back k) ≡ all_parts + back
   pub mine : q.count.mine ≡ put_to tale back k
   pub full : (j : ℕ) → j < back → 0 < tale.full j k → m.room ≤ q.count.seen
+  pub often : q.count.full ≡ full_to tale back k
+  pub collects : q.count.collects ≡ known_back (nat_le back k) (tale.collects k)
 
 abbrev pub AreBack : Tale → ℕ → ℕ → List MailboxView → List PortView → Type 0
 AreBack tale n back mails masters = Pairs (IsBack tale n back) mails masters
@@ -121,6 +134,17 @@ TakeOut mails masters = Pairs (λ k m q. IsPortOf m q × (q.view.takes ≡ true)
 abbrev pub EmptyAll : {Z : Type 0} → List MailboxView → List PortView → List (Vec Message Z) → Type 0
 EmptyAll {Z} mails masters left = Pairs (λ (k : ℕ) (q : PortView) (l : Vec Message Z). (m : MailboxView) → Empties (get_or mails k m) q l.items) masters left
 
+-- the port once that was taken out: it notes what it noted
+pub record HasEmptied (q : PortView) (left : List Message) (r : PortView) : Type 0 where
+  pub taken : r.view.taken ≡ q.view.taken ++ left
+  pub back : r.count.full ≡ q.count.full
+  pub collects : r.count.collects ≡ q.count.collects
+
+-- so have all
+pub record HaveEmptied {Z : Type 0} (olds : List PortView) (left : List (Vec Message Z)) (news : List PortView) : Type 0 where
+  pub count : length news ≡ length olds
+  pub each : (k : ℕ) (q r : PortView) (l : Vec Message Z) → k < length olds → HasEmptied (get_or olds k q) (get_or left k l).items (get_or news k r)
+
 -- of each member what it put into each mailbox is what was taken of it and what is left, and nobody else put anything in; no more
 -- is left than one has room for, and where one was full, as many messages were put in
 pub record AreEmptied {Z : Type 0} (tale : Tale) (n : ℕ) (mails : List MailboxView) (left : List (Vec Message Z)) : Type 0 where
@@ -159,12 +183,26 @@ pub record IsSentTo (plan : Plan) (j k : ℕ) (node : NodeView Secrets) (idle : 
       WasDue plan j (place_of plan j) (turns_of plan j) k node (own_rows node) (turns_of plan j) idle (HadRows node d.due)
 
 -- what nodes and logs tell, by their places; beyond them what this node and this log do
-abbrev pub tale_told : List (NodeView Secrets) → List Log → NodeView Secrets → Log → Tale
-tale_told nodes logs v g = record {
+abbrev pub tale_told : Plan → List (NodeView Secrets) → List Log → NodeView Secrets → Log → Tale
+tale_told plan nodes logs v g = record {
   put = λ j k. put_by j (rows_of_node (get_or nodes j v)) (get_or logs j g) k;
   full = λ j k. (dispatch_to (get_or logs j g) k).full;
   taken = λ k. (get_or logs k g).intake.taken.items;
+  collects = λ k. turns_of plan k;
 }
+
+-- by the first port of a member's mailbox, which took all others back: so often the member collected, and so often a message came
+-- back; and what was taken out is what it took, and then what was left
+pub record HasCollected (tale : Tale) (n k : ℕ) (left : List Message) (q : PortView) : Type 0 where
+  pub collects : q.count.collects ≡ tale.collects k
+  pub back : q.count.full ≡ full_to tale n k
+  pub taken : q.view.taken ≡ tale.taken k ++ left
+
+-- so it is of all, by what nodes and logs tell; each collected once in each of its turns
+pub record HaveCollected {Z : Type 0} (plan : Plan) (nodes : List (NodeView Secrets)) (logs : List Log) (left : List (Vec Message Z)) (ports : List PortView) : Type 0 where
+  pub count : length ports ≡ length nodes
+  pub each : (k : ℕ) (v : NodeView Secrets) (g : Log) (l : Vec Message Z) (q : PortView) → k < length nodes →
+      HasCollected (tale_told plan nodes logs v g) (length nodes) k (get_or left k l).items (get_or ports k q)
 
 -- the nodes, the logs and what the mailboxes had left, once all threads are joined
 pub record AreTold {Z : Type 0} (plan : Plan) (room : ℕ) (nodes : List (NodeView Secrets)) (logs : List Log) (left : List (Vec Message Z)) : Type 0 where
@@ -173,10 +211,10 @@ pub record AreTold {Z : Type 0} (plan : Plan) (room : ℕ) (nodes : List (NodeVi
   pub sent : (j k : ℕ) (v : NodeView Secrets) (g : Log) → j < length nodes → k < length nodes →
       IsSentTo plan j k (get_or nodes j v) (get_or logs j g).idle (dispatch_to (get_or logs j g) k)
   pub mail : (j k : ℕ) (v : NodeView Secrets) (g : Log) (l : Vec Message Z) → j < length nodes → k < length nodes →
-      (tale_told nodes logs v g).put j k ≡ messages_of j (get_or logs k g).intake.taken.items ++ messages_of j (get_or left k l).items
+      (tale_told plan nodes logs v g).put j k ≡ messages_of j (get_or logs k g).intake.taken.items ++ messages_of j (get_or left k l).items
   pub known : (k : ℕ) (g : Log) (l : Vec Message Z) → k < length nodes → AreFrom (length nodes) ((get_or logs k g).intake.taken.items ++ (get_or left k l).items)
   pub few : (k : ℕ) (l : Vec Message Z) → k < length nodes → length (get_or left k l).items ≤ room
-  pub full : (j k : ℕ) (v : NodeView Secrets) (g : Log) → j < length nodes → k < length nodes → 0 < (dispatch_to (get_or logs j g) k).full → room ≤ put_to (tale_told nodes logs v g) (length nodes) k
+  pub full : (j k : ℕ) (v : NodeView Secrets) (g : Log) → j < length nodes → k < length nodes → 0 < (dispatch_to (get_or logs j g) k).full → room ≤ put_to (tale_told plan nodes logs v g) (length nodes) k
   pub each : (k : ℕ) (v : NodeView Secrets) (g : Log) → k < length nodes → (p : SharedNode Secrets) × IsTold plan k p (get_or nodes k v) (get_or logs k g)
 
 -- the nodes were shared, and beside the turns others only marked

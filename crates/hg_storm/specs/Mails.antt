@@ -6,6 +6,7 @@ use Rattle.hg_model.specs.declared.row.Row.{Row}
 use Rattle.hg_life.specs.NodeView.{NodeView, node_rows}
 use Rattle.hg_mail.specs.declared.message.Message.{Message}
 use Rattle.hg_mail.specs.Messages.{messages_of}
+use Rattle.hg_mail.specs.Mailboxes.{PortView}
 use Rattle.hg_storm.specs.declared.plan.Plan.{Plan}
 use Rattle.hg_storm.specs.declared.sending.Dispatch.{Dispatch}
 use Rattle.hg_storm.specs.declared.desk.Log.{Log}
@@ -13,6 +14,7 @@ use Rattle.hg_storm.specs.declared.threads.Joined.{Joined}
 use Rattle.hg_storm.specs.declared.mails.Mail.{Mail}
 use Rattle.hg_storm.specs.Joins.{AreTold, IsSentTo, dispatch_to}
 use Rattle.hg_storm.specs.Keeping.{Secrets}
+use Rattle.hg_storm.specs.Threads.{turns_of}
 
 -- the names of a node's rows, in order
 abbrev pub names_in : NodeView Secrets → List (List ℕ)
@@ -39,6 +41,17 @@ names_to mails to = sum_by (λ (m : Mail). cond (m.to == to) (length m.sent.item
 -- how many its mailbox had left
 abbrev pub names_left : List Mail → ℕ → ℕ
 names_left mails to = sum_by (λ (m : Mail). cond (m.to == to) (length m.left.items) 0) mails
+
+-- how often one came back from its mailbox
+abbrev pub names_back : List Mail → ℕ → ℕ
+names_back mails to = sum_by (λ (m : Mail). cond (m.to == to) m.full 0) mails
+
+-- By the port of a member's mailbox that took all others back: the member collected once in each of its turns, as many messages came
+-- back as is told, and as many were taken out as names were sent to it.
+pub record IsCollected (plan : Plan) (mails : List Mail) (to : ℕ) (q : PortView) : Type 0 where
+  pub collects : q.count.collects ≡ turns_of plan to
+  pub back : q.count.full ≡ names_back mails to
+  pub out : length q.view.taken ≡ names_to mails to
 
 -- what a mail tells of the rows that were sent
 abbrev pub dispatch_of : Mail → Dispatch

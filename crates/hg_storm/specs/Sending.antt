@@ -26,12 +26,14 @@ pub record HasSent (m : MailboxView) (from : ℕ) (rows : List (List ℕ)) (sent
   pub within : sent ≤ length rows
   pub part : p.count.parts ≡ 1
   pub mine : p.count.mine ≡ sent
+  pub none : p.count.collects ≡ 0
 
 -- these rows were put in too
 pub record Sends (from place : ℕ) (rows : List (List ℕ)) (p q : PortView) : Type 0 where
   pub put : (put : List Message) → p.view ≡ sender_view from put → q.view ≡ sender_view from (put ++ messages_from from place rows)
   pub parts : q.count.parts ≡ p.count.parts
   pub mine : q.count.mine ≡ p.count.mine + length rows
+  pub collects : q.count.collects ≡ p.count.collects
   pub seen : p.count.seen ≤ q.count.seen
 
 -- no message came back meanwhile

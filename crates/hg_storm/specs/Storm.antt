@@ -5,6 +5,7 @@ use Rattle.hg_life.specs.Members.{MemberList, stakes_of}
 use Rattle.hg_life.specs.NodeView.{NodeView, start_of}
 use Rattle.hg_life.specs.Signing.{secrets_of}
 use Rattle.hg_runs.specs.Safety.{IsSafe}
+use Rattle.hg_mail.specs.Mailboxes.{PortView}
 use Rattle.hg_board.specs.Seats.{SharedNode}
 use Rattle.hg_world.specs.World.{Secrets, WorldView, new_world, nodes_of, run_of}
 use Rattle.hg_world.specs.Parts.{IsWorld, nth_node, unfrozen, world_of}
@@ -15,7 +16,7 @@ use Rattle.hg_storm.specs.declared.outcome.Storm.{Storm}
 use Rattle.hg_storm.specs.declared.refusals.Refusal.{Refusal}
 use Rattle.hg_storm.specs.Drawing.{circle_of}
 use Rattle.hg_storm.specs.Joins.{HasSession}
-use Rattle.hg_storm.specs.Mails.{AreMails}
+use Rattle.hg_storm.specs.Mails.{AreMails, IsCollected}
 use Rattle.hg_storm.specs.Refusals.{HasTakenNames}
 
 -- the world after a pull, of the first of two members from the second, and after a member's node is settled
@@ -48,7 +49,8 @@ abbrev pub world_again : MemberList → List (NodeView Secrets) → WorldView
 world_again members ends = world_of (stakes_of members) members.coin (unfrozen ends)
 
 -- The members' nodes, which began without rows, took their turns between threads. Each is that of its member still, and this
--- is what those that have nodes sent each other, in how many turns each made no event, and what each refused. Then the first
+-- is what those that have nodes sent each other, in how many turns each made no event, and what each refused; in each of its
+-- turns each took what its mailbox had, by the ports that did it. Then the first
 -- of those that have nodes pulled from each other one, each other one from it, and these nodes settled. Each history is that
 -- of a node, and the run is safe.
 pub record IsStorm (members : MemberList) (times room first : ℕ) (s : Storm) : Type 0 where
@@ -61,6 +63,8 @@ pub record IsStorm (members : MemberList) (times room first : ℕ) (s : Storm) :
   pub starts : (m : ℕ) → m < length ends → (nth_node ends m).start ≡ start_of members m (secrets_of members)
   pub session : HasSession (nodes_of (new_world members)) ends
   pub mail : AreMails plan room ends s.idle.items s.mail.items
+  pub ports_count : length s.ports.items ≡ length ends
+  pub collected : (k : ℕ) (q : PortView) → k < length ends → IsCollected plan s.mail.items k (get_or s.ports.items k q)
   pub idle_count : length s.idle.items ≡ length ends
   pub refused_count : length s.refused.items ≡ length ends
   pub each : (k : ℕ) (v : NodeView Secrets) (i : ℕ) (l : Vec Refusal) → k < length ends →

@@ -39,6 +39,8 @@ pub record IsFirstPort (issued bound k : ℕ) (m : MailboxView) (q : PortView) :
   pub view : q.view ≡ opened_view issued (nat_le bound k)
   pub parts : q.count.parts + issued + away (nat_le bound k) ≡ all_parts
   pub mine : q.count.mine ≡ 0
+  pub back : q.count.full ≡ 0
+  pub collects : q.count.collects ≡ 0
 
 -- so it is of all mailboxes, where so many members have their ports
 abbrev pub AreOpened : ℕ → List MailboxView → List PortView → Type 0

@@ -1,5 +1,5 @@
 -- A member's turns: what it has sent, taken and made after so many of them
-use Rattle.std.specs.Prelude.{ℕ, zero, suc, ◌≡◌, [], ◌+◌, ◌<◌, ◌≤◌, ◌^◌, ◌⊎◌, ◌==◌, ⊤, Bool, true, false, List, length, take, get_or, slice_get, count_by, Option, Some, None}
+use Rattle.std.specs.Prelude.{ℕ, zero, suc, ◌≡◌, [], ◌+◌, ◌<◌, ◌≤◌, ◌^◌, ◌⊎◌, ◌==◌, ⊤, Bool, true, false, List, length, take, get_or, slice_get, count_by, ◌++◌, Option, Some, None}
 use Rattle.std.specs.List.{AllByRecursion}
 use Rattle.hg_model.specs.declared.row.Row.{Row}
 use Rattle.hg_life.specs.declared.answers.MakeAnswer.{MakeAnswer}
@@ -10,7 +10,7 @@ use Rattle.hg_life.specs.NodeView.{NodeView, node_rows}
 use Rattle.hg_life.specs.Signing.{accepts_by}
 use Rattle.hg_life.specs.Verdict.{last_name, parents_on}
 use Rattle.hg_node.specs.Next.{MakesNext, next_others}
-use Rattle.hg_mail.specs.Count.{one_part}
+use Rattle.hg_mail.specs.declared.message.Message.{Message}
 use Rattle.hg_mail.specs.Mailboxes.{MailboxView, PortView}
 use Rattle.hg_board.specs.Positions.{AreBelow, times}
 use Rattle.hg_board.specs.Table.{node_at}
@@ -24,7 +24,7 @@ use Rattle.hg_storm.specs.declared.desk.Desk.{Desk}
 use Rattle.hg_storm.specs.Drawing.{Draws, HasDrawn, IsLastDraw, times_drawn}
 use Rattle.hg_storm.specs.Fates.{HasFates}
 use Rattle.hg_storm.specs.Keeping.{Secrets, rows_made, rows_made_in}
-use Rattle.hg_storm.specs.Receiving.{IsInbox}
+use Rattle.hg_storm.specs.Receiving.{IsInbox, collector}
 use Rattle.hg_storm.specs.Sending.{HasSent, bytes_seen}
 
 -- ---- turns that made nothing
@@ -171,13 +171,13 @@ pub record HasServedAll (plan : Plan) (me place turns : ℕ) (rows : List (List 
 
 -- ---- a member between two steps of its turns
 
--- after so many draws and so many rows that were made or could not be
+-- after so many draws and so many rows that were made or could not be; before each of these the member collected once
 pub record Standing (plan : Plan) (place : ℕ) (mails : List MailboxView) (p : SharedNode Secrets) (drawn made own : ℕ) (log : Log) (s : SeatView Secrets) (qs : List PortView) (box : PortView) : Type 0 where
   pub me : own < length mails
   pub seat : IsSeat accepts_by p s
   pub fates : HasFates accepts_by p s log.intake.taken.items log.intake.refused.items
   pub inbox : (m : MailboxView) → IsInbox (get_or mails own m) log.intake.taken.items box
-  pub alone : box.count ≡ one_part
+  pub alone : box.count ≡ collector made
   pub served : HasServedAll plan own place drawn (bytes_seen p s) mails log.dispatches.items qs
   pub room : 0 < p.start.start.limit
   pub some : 0 < made → 0 < length (bytes_seen p s)
@@ -198,6 +198,33 @@ pub record IsAtTurns (mails : List MailboxView) (p : SharedNode Secrets) (made :
   pub drawn : ℕ
   pub few : drawn < 2 ^ 32
   pub stands : Stands plan place mails p drawn made d
+
+-- through this port a node's first rows were put in, no fewer than are told, and nothing else; and so often one came back
+pub record HasPut (me : ℕ) (rows : List (List ℕ)) (m : MailboxView) (d : Dispatch) (q : PortView) : Type 0 where
+  pub sent : HasSent m me rows q.count.mine q
+  pub told : d.sent ≤ q.count.mine
+  pub back : q.count.full ≡ d.full
+
+-- A member whose memory ran out in a turn, after so many rows that were made or could not be. Its node is one that the laws speak
+-- of still; of what it took out the last may be lost, and what came of the rest is told; and nothing is told as sent that was not.
+pub record HasStopped (mails : List MailboxView) (p : SharedNode Secrets) (made : ℕ) (d : Desk) : Type 0 where
+  pub me : d.me < length mails
+  pub seat : IsSeat accepts_by p d.seat
+  pub fates : HasFates accepts_by p d.seat d.log.intake.taken.items d.log.intake.refused.items
+  pub lost : List Message
+  pub inbox : (m : MailboxView) → IsInbox (get_or mails d.me m) (d.log.intake.taken.items ++ lost) d.inbox
+  pub alone : (d.inbox.count ≡ collector made) ⊎ (d.inbox.count ≡ collector (made + 1))
+  pub rows : rows_made d.seat + d.log.idle ≡ made
+  pub put : (k : ℕ) (m : MailboxView) (c : Dispatch) (q : PortView) → k < length mails →
+      HasPut d.me (bytes_seen p d.seat) (get_or mails k m) (get_or d.log.dispatches.items k c) (get_or d.ports.items k q)
+
+-- .. before the turn's row or after it
+abbrev pub HasStoppedIn : List MailboxView → SharedNode Secrets → ℕ → Desk → Type 0
+HasStoppedIn mails p made d = HasStopped mails p made d ⊎ HasStopped mails p (made + 1) d
+
+-- so it is of a member that stood there before
+abbrev pub MayStop : List MailboxView → SharedNode Secrets → Desk → Desk → Type 0
+MayStop mails p old new = (made : ℕ) → IsAtTurns mails p made old → HasStopped mails p made new
 
 -- it is the same member still, with its node
 pub record GoesOn (old new : Desk) : Type 0 where

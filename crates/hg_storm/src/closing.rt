@@ -2,7 +2,7 @@
 ghost use Rattle.std.specs.Prelude.{◌≡◌, ◌<◌, ◌≤◌, true, IfOk, OnOk, get_or, length};
 ghost use Rattle.hg_mail.specs.Count.{all_parts};
 ghost use Rattle.hg_mail.specs.Mailboxes.{IsPortOf};
-ghost use Rattle.hg_storm.specs.Joins.{AreAbsorbed, AreGathered, ArePortsOf, Empties, EmptyAll, HaveTurned, TakeOut};
+ghost use Rattle.hg_storm.specs.Joins.{AreAbsorbed, AreGathered, ArePortsOf, Empties, EmptyAll, HasEmptied, HaveEmptied, HaveTurned, TakeOut};
 ghost use Rattle.hg_storm.specs.Threads.{AreOpened};
 
 use crate::desk::{Desk, Job, Log};
@@ -80,6 +80,7 @@ fn empty<R: Wait>(
     requires of { IsPortOf mailbox.now port.old }
     requires takes { port.old.view.takes ≡ true }
     ensures ok { IfOk result (λ left. Empties mailbox.now port.old left.items) }
+    ensures port { IfOk result (λ left. HasEmptied port.old left.items port.new) }
     ensures whole { port.old.count.parts ≡ all_parts → port.old.count.seen ≤ port.old.count.mine }
 {
     mailbox.count(port);
@@ -94,7 +95,8 @@ pub(crate) fn empty_all<R: Wait>(
     masters: &mut Vec<Port>,
 ) -> Result<Vec<Vec<Message>>, Memory>
     requires { TakeOut mailboxes.now masters.old.items }
-    ensures { IfOk result (λ left. EmptyAll mailboxes.now masters.old.items left.items) }
+    ensures left { IfOk result (λ left. EmptyAll mailboxes.now masters.old.items left.items) }
+    ensures ports { IfOk result (λ left. HaveEmptied masters.old.items left.items masters.new.items) }
 {
     let mut left = Vec::new(alloc);
     'mailboxes: for k in 0..mailboxes.len() {

@@ -1,5 +1,6 @@
 use crate::mails::Mail;
 use crate::refusals::Refusal;
+use hg_mail::Port;
 use hg_world::World;
 
 /// What became of a storm.
@@ -10,6 +11,9 @@ pub struct Storm {
     pub world: World,
     /// What each member that has a node sent each other one, in their order.
     pub mail: Vec<Mail>,
+    /// By each member's mailbox, in their order: the port that took all others back, which has counted how often the member
+    /// collected and how often a message came back.
+    pub ports: Vec<Port>,
     /// In how many turns each member's node made no event, in their order. A member without a node takes no turn.
     pub idle: Vec<u32>,
     /// What each member's node refused until the joins, in their order.

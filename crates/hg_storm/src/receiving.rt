@@ -1,10 +1,10 @@
-ghost use Rattle.std.specs.Prelude.{◌≡◌, true, OnOk};
+ghost use Rattle.std.specs.Prelude.{◌≡◌, true, OnErr, OnOk};
 ghost use Rattle.hg_mail.specs.Mailboxes.{IsPortOf};
 ghost use Rattle.hg_board.specs.Seats.{IsOf};
 ghost use Rattle.hg_crowd.specs.Crowd.{IsStill};
 ghost use Rattle.hg_storm.specs.Fates.{HasFates};
 ghost use Rattle.hg_storm.specs.Keeping.{AddsNoRow, KeepsSeat};
-ghost use Rattle.hg_storm.specs.Receiving.{TakesMore};
+ghost use Rattle.hg_storm.specs.Receiving.{LosesRest, TakesMore};
 
 use crate::taking::{Intake, take_all};
 use hg_board::{Seat, Shared};
@@ -15,8 +15,9 @@ use std::alloc::Global;
 use std::sync::Wait;
 
 /// Takes messages out of a mailbox, as many as there is room for or as it holds, and puts their events into the node of its
-/// receiver, in order. After `Memory` some messages may be lost. The port may be any that takes out: only a step at which the
-/// mailbox held none shows that it did, whatever else the port knows.
+/// receiver, in order; the port counts that it collected. After `Memory` none was taken out, or the first of them are taken and
+/// the others are lost. The port may be any that takes out: only a step at which the mailbox held none shows that it did,
+/// whatever else the port knows.
 pub fn receive<V: Signer + Drop, R: Wait>(
     rt: &R,
     alloc: Global,
@@ -33,10 +34,10 @@ pub fn receive<V: Signer + Drop, R: Wait>(
     ensures of { IsOf shared.now seat.new }
     ensures still { IsStill seat.old seat.new }
     ensures seat { KeepsSeat V.accepts shared.now seat.old seat.new }
-    ensures made { OnOk result (AddsNoRow seat.old seat.new) }
-    ensures count { inbox.new.count ≡ inbox.old.count }
+    ensures made { AddsNoRow seat.old seat.new }
     ensures more { OnOk result (TakesMore mailbox.now inbox.old inbox.new intake.old.taken.items intake.new.taken.items) }
-    ensures fates { OnOk result (HasFates V.accepts shared.now seat.new intake.new.taken.items intake.new.refused.items) }
+    ensures lost { OnErr result (LosesRest mailbox.now inbox.old inbox.new intake.old.taken.items intake.new.taken.items) }
+    ensures fates { HasFates V.accepts shared.now seat.new intake.new.taken.items intake.new.refused.items }
 {
     let messages = mailbox.collect(rt, alloc, inbox)?;
     take_all(rt, shared, seat, intake, messages)

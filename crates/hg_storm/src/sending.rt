@@ -1,4 +1,4 @@
-ghost use Rattle.std.specs.Prelude.{◌≡◌, ◌+◌, ◌<◌, ◌≤◌, ◌^◌, IfOk, length, take};
+ghost use Rattle.std.specs.Prelude.{◌≡◌, ◌+◌, ◌<◌, ◌≤◌, ◌^◌, IfOk, OnErr, length, take};
 ghost use Rattle.hg_mail.specs.Messages.{IsSender};
 ghost use Rattle.hg_mail.specs.Mailboxes.{IsPortOf};
 ghost use Rattle.hg_board.specs.Seats.{IsOf};
@@ -6,7 +6,7 @@ ghost use Rattle.hg_board.specs.Copies.{bytes_from};
 ghost use Rattle.hg_board.specs.Table.{node_at};
 ghost use Rattle.hg_crowd.specs.Crowd.{IsStill};
 ghost use Rattle.hg_storm.specs.Keeping.{KeepsSeat};
-ghost use Rattle.hg_storm.specs.Sending.{AreIn, Dispatches, HasSent, IsDue, Sends, bytes_seen};
+ghost use Rattle.hg_storm.specs.Sending.{AreIn, Dispatches, HasSent, IsDue, NoneBack, Sends, bytes_seen};
 
 use hg_board::{Seat, Shared};
 use hg_mail::{Mailbox, Message, Port, PostAnswer};
@@ -98,7 +98,8 @@ fn piece_from<V: Signer + Drop, R: Wait>(
     shared.rows_from(rt, alloc, seat, place, most).0
 }
 
-/// Sends another member the rows that it was not sent yet, in order, until its mailbox is full.
+/// Sends another member the rows that it was not sent yet, in order, until its mailbox is full. After `Memory` the first of
+/// them were sent, as the port has counted.
 pub fn send_rows<V: Signer + Drop, R: Wait>(
     rt: &R,
     alloc: Global,
@@ -120,6 +121,10 @@ pub fn send_rows<V: Signer + Drop, R: Wait>(
     ensures due { IfOk result (λ d. IsDue shared.now seat.old seat.new d.due) }
     ensures rest { IfOk result (Dispatches mailbox.now port.old port.new dispatch) }
     ensures seen { port.old.count.seen ≤ port.new.count.seen }
+    // Without memory too the node's first rows were sent, as many as the port has counted, and none came back.
+    ensures counted { HasSent mailbox.now from (bytes_seen shared.now seat.new) port.new.count.mine port.new }
+    ensures more { port.old.count.mine ≤ port.new.count.mine }
+    ensures none { OnErr result (NoneBack port.old port.new) }
 {
     let due = rows_due(rt, alloc, shared, seat);
     let mut sent = dispatch.sent;

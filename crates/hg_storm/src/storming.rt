@@ -58,6 +58,7 @@ pub fn storm<C: Crew + Sync, G: Gate + Sync, R: Threads + Wait + Sync>(
         nodes,
         logs,
         left: _,
+        ports,
     } = joined;
     let refused = refused_of(alloc, nodes.as_slice(), logs.as_slice())?;
     let idle = idle_of(alloc, logs.as_slice())?;
@@ -70,6 +71,7 @@ pub fn storm<C: Crew + Sync, G: Gate + Sync, R: Threads + Wait + Sync>(
     Ok(Storm {
         world,
         mail,
+        ports,
         idle,
         refused,
         ended,

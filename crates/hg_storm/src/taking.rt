@@ -1,8 +1,9 @@
-ghost use Rattle.std.specs.Prelude.{◌≡◌, ◌<◌, ◌++◌, ◌∷◌, [], IfOk, OnOk, length, vec_capacity, vec_len};
+ghost use Rattle.std.specs.Prelude.{◌≡◌, ◌<◌, ◌++◌, ◌∷◌, [], IfOk, OnErr, OnOk, length, vec_capacity, vec_len};
 ghost use Rattle.hg_board.specs.Seats.{IsOf};
 ghost use Rattle.hg_crowd.specs.Crowd.{IsStill};
 ghost use Rattle.hg_storm.specs.Fates.{HasFates, after_put};
 ghost use Rattle.hg_storm.specs.Keeping.{AddsNoRow, KeepsSeat};
+ghost use Rattle.hg_storm.specs.Receiving.{TakesNotAll};
 
 use hg_board::{Seat, Shared};
 use hg_life::{Fault, PutAnswer};
@@ -74,9 +75,10 @@ fn take_one<V: Signer + Drop, R: Wait>(
     ensures of { IsOf shared.now seat.new }
     ensures still { IsStill seat.old seat.new }
     ensures seat { KeepsSeat V.accepts shared.now seat.old seat.new }
-    ensures made { OnOk result (AddsNoRow seat.old seat.new) }
-    ensures fates { OnOk result (HasFates V.accepts shared.now seat.new intake.new.taken.items intake.new.refused.items) }
+    ensures made { AddsNoRow seat.old seat.new }
+    ensures fates { HasFates V.accepts shared.now seat.new intake.new.taken.items intake.new.refused.items }
     ensures taken { OnOk result (intake.new.taken.items ≡ intake.old.taken.items ++ message ∷ []) }
+    ensures dropped { OnErr result (intake.new.taken.items ≡ intake.old.taken.items) }
 {
     intake.taken.reserve(1)?;
     intake.refused.reserve(1)?;
@@ -99,9 +101,10 @@ pub fn take_all<V: Signer + Drop, R: Wait>(
     ensures of { IsOf shared.now seat.new }
     ensures still { IsStill seat.old seat.new }
     ensures seat { KeepsSeat V.accepts shared.now seat.old seat.new }
-    ensures made { OnOk result (AddsNoRow seat.old seat.new) }
-    ensures fates { OnOk result (HasFates V.accepts shared.now seat.new intake.new.taken.items intake.new.refused.items) }
+    ensures made { AddsNoRow seat.old seat.new }
+    ensures fates { HasFates V.accepts shared.now seat.new intake.new.taken.items intake.new.refused.items }
     ensures taken { OnOk result (intake.new.taken.items ≡ intake.old.taken.items ++ messages.items) }
+    ensures lost { OnErr result (TakesNotAll intake.old.taken.items messages.items intake.new.taken.items) }
 {
     'messages: for message in messages {
         take_one(rt, shared, seat, intake, message)?;

@@ -1,10 +1,10 @@
 // A member's turns.
-ghost use Rattle.std.specs.Prelude.{◌≡◌, ◌+◌, ◌<◌, ◌≤◌, ◌^◌, IfOk, OnOk, Some, length};
+ghost use Rattle.std.specs.Prelude.{◌≡◌, ◌+◌, ◌<◌, ◌≤◌, ◌^◌, IfOk, OnErr, OnOk, Some, length};
 ghost use Rattle.hg_life.specs.Signing.{accepts_by};
 ghost use Rattle.hg_board.specs.Seats.{IsOf};
-ghost use Rattle.hg_board.specs.Calls.{Stays};
+ghost use Rattle.hg_board.specs.Calls.{SeatWaits, Stays};
 ghost use Rattle.hg_storm.specs.Drawing.{IsCircle, IsDrawing};
-ghost use Rattle.hg_storm.specs.Turning.{GoesOn, HasMade, IsAtTurns, MakesOneMore, ServesOneMore, Stands};
+ghost use Rattle.hg_storm.specs.Turning.{GoesOn, HasMade, HasStopped, HasStoppedIn, IsAtTurns, MakesOneMore, MayStop, ServesOneMore, Stands};
 
 use crate::desk::Desk;
 use crate::drawing::draw_peer;
@@ -33,6 +33,7 @@ fn make_row<R: Wait>(
     requires { IsOf shared.now seat.old }
     ensures stays { Stays accepts_by shared.now seat.old seat.new }
     ensures made { IfOk result (HasMade shared.now seat.old time seat.new) }
+    ensures waits { OnErr result (SeatWaits accepts_by shared.now seat.old seat.new) }
 {
     match shared.make_next(rt, seat, time)? {
         Some(MakeAnswer::Made(_)) => Ok(true),
@@ -53,8 +54,9 @@ fn take_and_make<R: Wait>(
     requires at { IsAtTurns mailboxes.now shared.now t desk.old }
     requires few { t + 1 < 2 ^ 32 }
     ensures draws { desk.new.draws ≡ desk.old.draws }
-    ensures on { OnOk result (GoesOn desk.old desk.new) }
+    ensures on { GoesOn desk.old desk.new }
     ensures makes { OnOk result (MakesOneMore mailboxes.now shared.now t desk.old desk.new) }
+    ensures stopped { OnErr result (HasStopped mailboxes.now shared.now t desk.new) }
 {
     let mailbox = &mailboxes[desk.me as usize];
     receive(
@@ -85,8 +87,9 @@ fn send_to<R: Wait>(
     requires at { (made : _) × IsAtTurns mailboxes.now shared.now made desk.old }
     requires peer { peer < length mailboxes.now }
     ensures draws { desk.new.draws ≡ desk.old.draws }
-    ensures on { OnOk result (GoesOn desk.old desk.new) }
+    ensures on { GoesOn desk.old desk.new }
     ensures serves { OnOk result (ServesOneMore mailboxes.now shared.now peer desk.old desk.new) }
+    ensures stopped { OnErr result (MayStop mailboxes.now shared.now desk.old desk.new) }
 {
     let to = peer as usize;
     let dispatch = send_rows(
@@ -119,9 +122,11 @@ fn turn<R: Wait>(
     requires few { t + 1 < 2 ^ 32 }
     requires place { place < length plan.now.circle.items }
     requires circle { IsCircle (length mailboxes.now) plan.now }
-    ensures on { OnOk result (GoesOn desk.old desk.new) }
+    ensures on { GoesOn desk.old desk.new }
     ensures stands { OnOk result (Stands plan.now place mailboxes.now shared.now (t + 1) (t + 1) desk.new) }
     ensures draws { OnOk result (IsDrawing plan.now desk.new.me (t + 1) desk.new.draws) }
+    // Without memory the node is one that the laws speak of, and what is told of the turn is so.
+    ensures stopped { OnErr result (HasStoppedIn mailboxes.now shared.now t desk.new) }
 {
     take_and_make(rt, alloc, mailboxes, shared, desk, t)?;
     if let Some(peer) = draw_peer(plan.circle.as_slice(), place, &mut desk.draws) {

@@ -14,5 +14,6 @@ invariant-tries g l = record {
   parts : l.seat.me.0.parts ≡ l.fn.seat.me.0.parts;
   mine : l.seat.me.0.mine ≡ l.fn.seat.me.0.mine;
   full : l.seat.me.0.full ≡ l.fn.seat.me.0.full;
+  collects : l.seat.me.0.collects ≡ l.fn.seat.me.0.collects;
   seen : l.fn.seat.me.0.seen ≤ l.seat.me.0.seen;
 }

@@ -1,5 +1,5 @@
-use Rattle.std.proofs.Common.{length, refl, inr, ◌∙◌, arith}
-use Rattle.hg_storm.proofs.SendLaws.{due_at, due_most, due_on, none_more, piece_most, piece_sent, piece_some, rows_longer, sent_later, some_back, still_on}
+use Rattle.std.proofs.Common.{◌+◌, length, refl, inr, ◌∙◌, arith}
+use Rattle.hg_storm.proofs.SendLaws.{as_counted, counted_later, due_at, due_most, due_on, none_more, piece_most, piece_sent, piece_some, rows_longer, sent_later, some_back, still_on}
 use Rattle.hg_storm.proofs.sending.send_rows.Goals as goal
 
 pub pieces-init : goal.pieces-init
@@ -18,6 +18,7 @@ pieces-init g c =
       sent = sent_later p s t c.args.mailbox.now c.args.from c.args.dispatch.sent c.args.port.now e.still.seen c.requires.sent;
       seen = omega arith;
       back = refl;
+      more = omega arith;
     }
 
 pub returns-then-more-count-clause-sent : goal.returns-then-more-count-clause-sent
@@ -25,6 +26,20 @@ returns-then-more-count-clause-sent g c =
     let e = c.send_piece-more.ensures in
     piece_sent c.args.shared.now c.pieces.seat c.piece_from.new.seat c.args.mailbox.now c.args.from c.pieces.sent _ c.send_piece-more.result c.in_ok-rows.rows.items c.pieces.port c.send_piece-more.new.port
     c.in_ok-rows.ensures.still.seen c.pieces.invariant.sent c.in_ok-rows.ensures.rows e.within e.of e.sends
+
+pub returns-then-more-count-clause-counted : goal.returns-then-more-count-clause-counted
+returns-then-more-count-clause-counted g c =
+    let e = c.send_piece-more.ensures in
+    as_counted c.args.mailbox.now c.args.from _ (c.pieces.sent + c.send_piece-more.result) c.send_piece-more.new.port
+    (piece_sent c.args.shared.now c.pieces.seat c.piece_from.new.seat c.args.mailbox.now c.args.from c.pieces.sent _ c.send_piece-more.result c.in_ok-rows.rows.items c.pieces.port c.send_piece-more.new.port
+    c.in_ok-rows.ensures.still.seen c.pieces.invariant.sent c.in_ok-rows.ensures.rows e.within e.of e.sends)
+
+pub returns-in_err-rows-clause-counted : goal.returns-in_err-rows-clause-counted
+returns-in_err-rows-clause-counted g c =
+    counted_later c.args.shared.now c.pieces.seat c.piece_from.new.seat c.args.mailbox.now c.args.from c.pieces.sent c.pieces.port c.piece_from.ensures.still.seen c.pieces.invariant.sent
+
+pub returns-clause-counted : goal.returns-clause-counted
+returns-clause-counted g c = as_counted c.args.mailbox.now c.args.from _ c.pieces.sent c.pieces.port c.pieces.invariant.sent
 
 pub returns-then-more-count-clause-due : goal.returns-then-more-count-clause-due
 returns-then-more-count-clause-due g c =
@@ -60,4 +75,5 @@ pieces-preserved g c =
           c.in_ok-rows.ensures.still.seen i.sent c.in_ok-rows.ensures.rows e.within e.of e.sends;
       seen = omega (arith, i.seen, e.sends.seen);
       back = none_more c.args.mailbox.now c.args.port.now c.pieces.port c.send_piece-more.new.port (length c.in_ok-rows.rows.items) c.send_piece-more.result i.back e.rest (omega (arith, c.len-count.ensures, c.if-more-count.false));
+      more = omega (arith, i.more, e.sends.mine);
     }

@@ -16,6 +16,7 @@ invariant-pieces g l = record {
   sent : HasSent l.mailbox l.from (bytes_seen l.shared l.seat) l.sent l.port;
   seen : l.fn.port.count.seen ≤ l.port.count.seen;
   back : NoneBack l.fn.port l.port;
+  more : l.fn.port.count.mine ≤ l.port.count.mine;
 }
 
 abbrev pub decreases-pieces : goal.decreases-pieces

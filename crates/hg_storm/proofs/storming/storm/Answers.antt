@@ -8,7 +8,7 @@ use Rattle.hg_storm.specs.Mails.{AreMailsOf}
 use Rattle.hg_storm.specs.Refusals.{HaveRows, refusals_of}
 use Rattle.hg_storm.specs.Storm.{gathered, world_again}
 use Rattle.hg_storm.proofs.NameLaws.{have_rows, idle_long, refused_long, taken_names}
-use Rattle.hg_storm.proofs.SentLaws.{are_mails}
+use Rattle.hg_storm.proofs.SentLaws.{are_collected, are_mails}
 use Rattle.hg_storm.proofs.WorldLaws.{begun_count, begun_empty, begun_room, circle_members, ends_again, ends_many, ends_members, ends_of_one_list, ends_start, is_circle, world_count}
 use Rattle.hg_storm.proofs.storming.storm.Goals as goal
 
@@ -81,6 +81,8 @@ returns g c =
       starts = ends_start first ends session members c.is_lawful.ensures are;
       session = subst (λ (nodes : List (NodeView Secrets)). HasSession nodes ends) are session;
       mail = are_mails members c.args.room all plan told c.in_ok-circle_of.ensures below c.in_ok-mail.mail.items mails c.in_ok-idle.idle.items idle;
+      ports_count = c.in_ok-joined.ensures.collected.count;
+      collected = are_collected members c.args.room all plan told c.in_ok-circle_of.ensures below c.in_ok-mail.mail.items mails all.ports.items c.in_ok-joined.ensures.collected;
       idle_count = idle_long members c.args.room all plan told c.in_ok-circle_of.ensures c.in_ok-mail.mail.items mails c.in_ok-idle.idle.items c.in_ok-refused.refused.items idle refused;
       refused_count = refused_long members c.args.room all plan told c.in_ok-circle_of.ensures c.in_ok-mail.mail.items mails c.in_ok-idle.idle.items c.in_ok-refused.refused.items idle refused;
       each = taken_names members c.args.room all plan told c.in_ok-circle_of.ensures c.in_ok-mail.mail.items mails c.in_ok-idle.idle.items c.in_ok-refused.refused.items idle refused;

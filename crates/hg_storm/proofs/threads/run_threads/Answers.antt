@@ -12,7 +12,7 @@ use Rattle.hg_storm.specs.Keeping.{Secrets}
 use Rattle.hg_storm.specs.Threads.{AreOpened, HaveRoom}
 use Rattle.hg_storm.proofs.OpenLaws.{new_jobs_may_run}
 use Rattle.hg_storm.proofs.ThreadLaws.{are_joined, have_turned, lasts_are_seats, lasts_have_all, more_of_all, session_of}
-use Rattle.hg_storm.proofs.ToldLaws.{are_told}
+use Rattle.hg_storm.proofs.ToldLaws.{are_told, have_collected}
 use Rattle.hg_storm.proofs.threads.run_threads.Goals as goal
 
 pub jobs_of-requires-clause-opened : goal.jobs_of-requires-clause-opened
@@ -135,4 +135,22 @@ returns-clause-told g c =
     let whole = subst (λ (l : List (SharedNode Secrets)). AreWhole l lasts ends) (sym c.as_slice-places.ensures.value) c.in_ok-nodes.ensures in
     let rooms = subst (HaveRoom c.args.room) (sym c.as_slice-boxes.ensures.value) c.in_ok-mailboxes.ensures.room in
     are_told c.args.plan.now c.args.room boxes nodes ends places firsts lasts olds news c.absorb_all.new.masters.items c.in_ok-seats.logs.items c.in_ok-left.left.items c.requires.new rooms
-    joined c.in_ok-seats.ensures.back c.in_ok-seats.ensures.takes c.in_ok-left.ensures whole
+    joined c.in_ok-seats.ensures.back c.in_ok-seats.ensures.takes c.in_ok-left.ensures.left whole
+
+pub returns-clause-collected : goal.returns-clause-collected
+returns-clause-collected g c =
+    let nodes = c.args.nodes.items in
+    let boxes = c.as_slice-boxes.result.now in
+    let places = c.as_slice-places.result.now in
+    let firsts = c.in_ok-shared.seats.items in
+    let olds = c.in_ok-jobs.jobs.items in
+    let news = c.in_ok-jobs-2.jobs.items in
+    let lasts = c.in_ok-seats.seats.items in
+    let ends = c.in_ok-nodes.nodes.items in
+    let started = subst (λ (l : List (SharedNode Secrets)). AreStarted accepts_by nodes l firsts) (sym c.as_slice-places.ensures.value) c.in_ok-shared.ensures in
+    let count : length boxes ≡ length nodes = omega (arith, ap length c.as_slice-boxes.ensures.value, c.in_ok-mailboxes.ensures.count, c.len.ensures) in
+    let joined = are_joined c.args.plan.now boxes nodes places firsts olds news c.in_ok-ended.ended.items started count c.in_ok-jobs.ensures.jobs c.in_ok-ended.ensures c.in_ok-jobs-2.ensures in
+    let whole = subst (λ (l : List (SharedNode Secrets)). AreWhole l lasts ends) (sym c.as_slice-places.ensures.value) c.in_ok-nodes.ensures in
+    let rooms = subst (HaveRoom c.args.room) (sym c.as_slice-boxes.ensures.value) c.in_ok-mailboxes.ensures.room in
+    have_collected c.args.plan.now c.args.room boxes nodes ends places firsts lasts olds news c.absorb_all.new.masters.items c.in_ok-seats.logs.items c.in_ok-left.left.items c.requires.new rooms
+    joined c.in_ok-seats.ensures.back c.in_ok-seats.ensures.takes c.in_ok-left.ensures.left whole c.empty_all.new.masters.items c.in_ok-left.ensures.ports

@@ -1,5 +1,6 @@
-use Rattle.std.proofs.Common.{ℕ, ◌≡◌, ◌+◌, ◌<◌, List, length, sym, ap, ◌∙◌, subst, arith}
+use Rattle.std.proofs.Common.{ℕ, ◌≡◌, ◌+◌, ◌<◌, inl, inr, List, length, sym, ap, ◌∙◌, subst, arith}
 use Rattle.hg_storm.specs.Drawing.{peer_drawn, state_at}
+use Rattle.hg_storm.proofs.TakeLaws.{on_err}
 use Rattle.hg_storm.proofs.TurnLaws.{drawn_next, serves_none}
 use Rattle.hg_storm.proofs.turning.turn.Goals as goal
 
@@ -49,3 +50,17 @@ returns-in_default-clause-stands g c =
     let none = c.in_default.ensures.none in
     serves_none c.args.plan.now c.args.place c.args.mailboxes.now c.args.shared.now c.args.t (c.args.t + 1) c.take_and_make.new.desk.me c.take_and_make.new.desk.log c.take_and_make.new.desk.seat
     c.take_and_make.new.desk.ports.items c.take_and_make.new.desk.inbox (omega (arith, none, ap length c.as_slice.ensures.value)) (c.in_ok-take_and_make.ensures.makes c.args.plan.now c.args.place c.args.t c.requires.stands)
+
+pub returns-in_err-take_and_make-clause-stopped : goal.returns-in_err-take_and_make-clause-stopped
+returns-in_err-take_and_make-clause-stopped g c = on_err c.from_residual.result _ (inl c.in_err-take_and_make.ensures.stopped)
+
+pub returns-in_err-send_to-clause-stopped : goal.returns-in_err-send_to-clause-stopped
+returns-in_err-send_to-clause-stopped g c =
+    let few = c.requires.few in
+    on_err c.from_residual-in_err-send_to.result _ (inr (c.in_err-send_to.ensures.stopped (c.args.t + 1) (record {
+      plan = c.args.plan.now;
+      place = c.args.place;
+      drawn = c.args.t;
+      few = omega (arith, few);
+      stands = c.in_ok-take_and_make.ensures.makes c.args.plan.now c.args.place c.args.t c.requires.stands;
+    })))

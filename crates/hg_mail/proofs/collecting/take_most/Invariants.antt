@@ -1,7 +1,7 @@
 use Rattle.std.proofs.Common.{◌≡◌, ◌≤◌, length, vec_capacity, vec_len}
 use Rattle.crossbeam_queue.specs.Passes.{IsSamePass, ruled_capacity, view}
 use Rattle.hg_mail.specs.Messages.{after_taking}
-use Rattle.hg_mail.proofs.collecting.collect_by.Given as goal
+use Rattle.hg_mail.proofs.collecting.take_most.Given as goal
 
 abbrev pub invariant-loop-i : goal.invariant-loop-i
 invariant-loop-i g l = record {
