@@ -17,11 +17,11 @@ returns-in_err-event-clause-parts c =
 pub loop-preserved : goal.loop-preserved
 loop-preserved c = record {
   parts = c.loop.invariant.parts
-    ∙ (parts_next (row_part c.args.size) c.args.count c.loop.counter c.loop.left.now (rows_of c.loop.events.items) (c.in_ok-event.event.value, c.in_ok-event.rest.now) (omega arith) c.in_ok-event.ensures.part
-    ∙ ap (λ (done : List Row). after done (rows_part c.args.size (c.args.count - (c.loop.counter + 1)) c.in_ok-event.rest.now))
-    (sym (ap rows_of c.in_ok-push.ensures.items ∙ map-append (λ e. e.value) c.loop.events.items (c.in_ok-event.event ∷ []))));
+      ∙ (parts_next (row_part c.args.size) c.args.count c.loop.counter c.loop.left.now (rows_of c.loop.events.items) (c.in_ok-event.event.value, c.in_ok-event.rest.now) (omega arith) c.in_ok-event.ensures.part
+      ∙ ap (λ (done : List Row). after done (rows_part c.args.size (c.args.count - (c.loop.counter + 1)) c.in_ok-event.rest.now))
+      (sym (ap rows_of c.in_ok-push.ensures.items ∙ map-append (λ e. e.value) c.loop.events.items (c.in_ok-event.event ∷ []))));
   begun = λ some. first_read c.args.size c.loop.counter c.args.bytes.now c.loop.left.now c.loop.invariant.begun c.loop.invariant.start
-    (is_read _ _ c.in_ok-event.ensures.part);
+      (is_read _ _ c.in_ok-event.ensures.part);
   start = λ none. absurd (omega (arith, none));
 }
 
