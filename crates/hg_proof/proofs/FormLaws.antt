@@ -28,7 +28,7 @@ same_read : {A : Type 0} (x y : A) → read x ≡ read y → x ≡ y
 same_read x y e = cc
 
 -- a step that gave no reason
-went : {A B : Type 0} (first : Result A Why) (next : A → Result B Why) (y : B) → (first >>= next) ≡ Ok y → (x : A) × (first ≡ Ok x) × (next x ≡ Ok y)
+pub went : {A B : Type 0} (first : Result A Why) (next : A → Result B Why) (y : B) → (first >>= next) ≡ Ok y → (x : A) × (first ≡ Ok x) × (next x ≡ Ok y)
 went (Ok x) next y e = (x, refl, e)
 went (Err why) next y e = absurd cc
 

@@ -5,3 +5,4 @@ pub mod Shows
 pub mod Answers
 pub mod Laws
 pub mod Least
+pub mod Want

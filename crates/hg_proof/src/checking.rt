@@ -1,9 +1,10 @@
-ghost use Rattle.std.specs.Prelude.{◌≡◌, ◌≤◌, [], IfOk, OnOk, length};
+ghost use Rattle.std.specs.Prelude.{◌≡◌, ◌≤◌, [], IfOk, OnErr, OnOk, length};
 ghost use Rattle.hg_life.specs.Results.{Gives};
 ghost use Rattle.hg_life.specs.Terms.{row_limit};
 ghost use Rattle.hg_graph.specs.RowsWithRoom.{rows_of};
 ghost use Rattle.hg_proof.specs.Answers.{HasFront, IfYes, Leaves, ShowsIn, Tells, TellsShown, graph_and, graph_passed, judged_in, ordered_among};
 ghost use Rattle.hg_proof.specs.Judging.{rows_in};
+ghost use Rattle.hg_proof.specs.Want.{IsBegun, OnMemory};
 
 use crate::comparing::difference;
 use crate::filling::fill;
@@ -47,6 +48,7 @@ fn judge<V: Verifier>(
     requires { graph.old.graph.rows ≡ [] }
     ensures shown { Gives (λ shown. shown) result (judged_in (V.accepts keys.now) graph.old.graph bytes.now) }
     ensures left { Leaves (V.accepts keys.now) graph.old.graph (rows_in bytes.now) result graph.new.graph }
+    ensures free { OnMemory result (IsBegun bytes.now) }
 {
     let shown = form_of(alloc, bytes)?;
     let whole = ordered(alloc, keys, graph, shown.events())?;
@@ -67,6 +69,7 @@ fn answered<V: Verifier>(
     ensures told { Tells (judged_in (V.accepts keys.now) graph.old.graph bytes.now) result }
     ensures passed { OnOk result (graph.new.graph ≡ graph_passed (V.accepts keys.now) graph.old.graph (rows_in bytes.now)) }
     ensures front { HasFront (V.accepts keys.now) graph.old.graph (rows_in bytes.now) graph.new.graph }
+    ensures free { OnErr result (IsBegun bytes.now) }
 {
     match judge(alloc, keys, graph, bytes) {
         Ok(shown) => Ok(Checked::Yes(shown)),
@@ -99,6 +102,8 @@ pub fn check<V: Verifier>(
     ensures passed { OnOk result (graph.new.graph ≡ graph_passed (V.accepts keys.now) graph.old.graph (rows_in bytes.now)) }
     // Where memory ran out, a front of those.
     ensures front { HasFront (V.accepts keys.now) graph.old.graph (rows_in bytes.now) graph.new.graph }
+    // Memory is wanted only of bytes that begin as a certificate, with an event where rows are promised.
+    ensures free { OnErr result (IsBegun bytes.now) }
 {
     // That the members have some stake, so that no rows are a graph.
     graph.len();

@@ -4,6 +4,7 @@ ghost use Rattle.hg_graph.specs.RowsWithRoom.{rows_of};
 ghost use Rattle.hg_life.specs.Results.{Gives};
 ghost use Rattle.hg_life.specs.Spelling.{Spells};
 ghost use Rattle.hg_proof.specs.Reading.{entries_part, form_of, graph_part, order_part, row_part, rows_part};
+ghost use Rattle.hg_proof.specs.Want.{BeginsGraph, HasFirst, IsBegun, IsRead, OnMemory};
 
 use crate::fields::{behind_magic, breaks_at, count_part, entry_part, u32_part};
 use crate::shown::Shown;
@@ -25,7 +26,8 @@ fn shared(alloc: Global, view: &EventView<'_>, bytes: &[u8]) -> Result<Arc<Event
 
 /// The event in front, and the bytes behind it.
 fn event_part(alloc: Global, bytes: &[u8], size: usize) -> Result<(Arc<Event>, &[u8]), Stop<Why>>
-    ensures { Gives (λ part. (part.0.value, part.1.now)) result (row_part size bytes.now) }
+    ensures part { Gives (λ part. (part.0.value, part.1.now)) result (row_part size bytes.now) }
+    ensures free { OnMemory result (IsRead (row_part size bytes.now)) }
 {
     let Ok((view, len)) = decode_first(bytes) else {
         return Err(Stop::Fault(breaks_at(size, bytes)));
@@ -41,7 +43,8 @@ fn events_part(
     size: usize,
     count: u32,
 ) -> Result<(Vec<Arc<Event>>, &[u8]), Stop<Why>>
-    ensures { Gives (λ part. (rows_of part.0.items, part.1.now)) result (rows_part size count bytes.now) }
+    ensures parts { Gives (λ part. (rows_of part.0.items, part.1.now)) result (rows_part size count bytes.now) }
+    ensures free { OnMemory result (HasFirst size count bytes.now) }
 {
     let mut events = Vec::new(alloc);
     let mut left = bytes;
@@ -60,7 +63,8 @@ fn graph_part(
     bytes: &[u8],
     size: usize,
 ) -> Result<(Vec<Arc<Event>>, &[u8]), Stop<Why>>
-    ensures { Gives (λ part. (rows_of part.0.items, part.1.now)) result (graph_part size bytes.now) }
+    ensures part { Gives (λ part. (rows_of part.0.items, part.1.now)) result (graph_part size bytes.now) }
+    ensures free { OnMemory result (BeginsGraph size bytes.now) }
 {
     let (count, rest) = count_part(bytes, size)?;
     events_part(alloc, rest, size, count)
@@ -95,10 +99,11 @@ fn order_part(alloc: Global, bytes: &[u8], size: usize) -> Result<(Vec<Placed>, 
 }
 
 /// What the bytes hold, or the first place at which they break the format. Whether events and entries belong together is
-/// not asked here.
+/// not asked here. Where no event stands in front of the rows it takes no memory for them.
 #[tactic(auto, unfolding(crate::specs::Reading::form_of))]
 pub(crate) fn form_of(alloc: Global, bytes: &[u8]) -> Result<Shown, Stop<Why>>
-    ensures { Gives (λ shown. shown) result (form_of bytes.now) }
+    ensures form { Gives (λ shown. shown) result (form_of bytes.now) }
+    ensures free { OnMemory result (IsBegun bytes.now) }
 {
     let size = bytes.len();
     let rest = behind_magic(bytes, size)?;

@@ -10,8 +10,9 @@
 //! ```
 #![tactic(auto)]
 
-ghost use Rattle.std.specs.Prelude.{OnOk};
+ghost use Rattle.std.specs.Prelude.{◌≡◌, ◌<◌, ◌%◌, OnOk, length};
 ghost use Rattle.hg_world.specs.World.{IsMemberOf};
+ghost use Rattle.register.specs.Play.{after_turn, opened, payload_at, played, turn_count, turned};
 ghost use Rattle.register.specs.Replicas.{AreOneRegister};
 
 mod replica;
@@ -64,7 +65,9 @@ fn members_of(alloc: Global) -> Result<Members, Trouble> {
 }
 
 /// The payload of the event that is made at a sync.
-fn payload_at(step: u32) -> &'static [u8] {
+fn payload_at(step: u32) -> &'static [u8]
+    ensures { result.now ≡ payload_at step }
+{
     match WRITES.get(step as usize) {
         None => b"",
         Some(write) => write,
@@ -73,27 +76,54 @@ fn payload_at(step: u32) -> &'static [u8] {
 
 /// The member of this number, where one counts round and round.
 fn member_at(world: &World, number: u32) -> Member
-    ensures { IsMemberOf world.now result }
+    ensures member { IsMemberOf world.now result }
+    ensures value { result ≡ number % length world.now.sites }
 {
     world.is_world();
     (number % world.members()) as Member
 }
 
-/// Each member makes its first event. Then they sync by turns, and publish what they know.
-fn play(world: &mut World) -> Result<(), Memory>
-    ensures { OnOk result (AreOneRegister world.new) }
+/// Each member makes its first event.
+fn open_each(world: &mut World) -> Result<(), Memory>
+    ensures { OnOk result (world.new ≡ opened world.old (length world.old.sites)) }
 {
-    steps_keep_sites();
     for number in 0..world.members() {
         let member = member_at(world, number);
         world.make(member, &[], u64::from(number), b"")?;
     }
+    Ok(())
+}
+
+/// At a step a member syncs with another, and publishes what it knows then.
+fn sync_at(world: &mut World, step: u32) -> Result<(), Memory>
+    requires { step < turn_count }
+    ensures { OnOk result (world.new ≡ after_turn world.old step) }
+{
+    steps_keep_sites();
+    let taker = member_at(world, step);
+    let peer = member_at(world, step + step / 4 % 3 + 1);
+    world.sync(taker, peer, u64::from(step) + 4, payload_at(step))?;
+    world.settle(taker)
+}
+
+/// All these steps.
+#[tactic(auto, unfolding(crate::specs::Play::turned))]
+fn sync_each(world: &mut World) -> Result<(), Memory>
+    ensures { OnOk result (world.new ≡ turned world.old turn_count) }
+{
     for step in 0..SYNCS {
-        let taker = member_at(world, step);
-        let peer = member_at(world, step + step / 4 % 3 + 1);
-        world.sync(taker, peer, u64::from(step) + 4, payload_at(step))?;
-        world.settle(taker)?;
+        sync_at(world, step)?;
     }
+    Ok(())
+}
+
+/// Each member makes its first event. Then they sync by turns, and publish what they know.
+fn play(world: &mut World) -> Result<(), Memory>
+    ensures played { OnOk result (world.new ≡ played world.old) }
+    ensures safe { OnOk result (AreOneRegister world.new) }
+{
+    open_each(world)?;
+    sync_each(world)?;
     world.is_world();
     Ok(())
 }
