@@ -1,8 +1,8 @@
-ghost use Rattle.std.specs.Prelude.{◌≡◌, ◌<◌, All, length};
+ghost use Rattle.std.specs.Prelude.{◌<◌, All, length};
 ghost use Rattle.hg_exchange.specs.Exchanges.{IsAsking, played_node};
 ghost use Rattle.hg_script.specs.Lawful.{IsLine};
 ghost use Rattle.hg_top.specs.Commands.{exchange_work, node_files, play_work, played_work, serve_work, take_work};
-ghost use Rattle.hg_top.specs.Course.{course, no_disk};
+ghost use Rattle.hg_top.specs.Course.{OnlyReads, course, no_disk};
 ghost use Rattle.hg_top.specs.Ends.{Ends};
 ghost use Rattle.hg_top.specs.Writing.{WroteOn};
 
@@ -70,7 +70,7 @@ fn serve_message<F: Shelf, K: Sink>(
     requires lines { All (IsLine members.now 0) lines.now }
     ensures ends { Ends (serve_work have.now members.now (played_node members.now lines.now own))
         (course F.Shelf K.Sink shelf.old shelf.new out.old out.new no_disk) result }
-    ensures same { F.holds shelf.new ≡ F.holds shelf.old }
+    ensures same { OnlyReads F.Shelf shelf.old shelf.new }
 {
     let message = match message_from(alloc, shelf, Want::Have, have) {
         Ok(message) => message,
@@ -96,7 +96,7 @@ fn take_message<F: Shelf, K: Sink>(
     requires lines { All (IsLine members.now 0) lines.now }
     ensures ends { Ends (take_work rows.now members.now (played_node members.now lines.now own))
         (course F.Shelf K.Sink shelf.old shelf.new out.old out.new no_disk) result }
-    ensures same { F.holds shelf.new ≡ F.holds shelf.old }
+    ensures same { OnlyReads F.Shelf shelf.old shelf.new }
 {
     let message = match message_from(alloc, shelf, Want::Rows, rows) {
         Ok(message) => message,
@@ -121,7 +121,7 @@ fn play_script<F: Shelf, K: Sink>(
     requires { own < length members.now.entries }
     ensures ends { Ends (play_work script.now (exchange_work exchange.entry) members.now own)
         (course F.Shelf K.Sink shelf.old shelf.new out.old out.new no_disk) result }
-    ensures same { F.holds shelf.new ≡ F.holds shelf.old }
+    ensures same { OnlyReads F.Shelf shelf.old shelf.new }
 {
     let lines = match lines_from(alloc, shelf, script, members, 0) {
         Ok(lines) => lines,
@@ -145,7 +145,7 @@ pub(crate) fn play_node<F: Shelf, K: Sink>(
 ) -> Status
     ensures ends { Ends (played_work (node_files asked.now) (exchange_work exchange.entry))
         (course F.Shelf K.Sink shelf.old shelf.new out.old out.new no_disk) result }
-    ensures same { F.holds shelf.new ≡ F.holds shelf.old }
+    ensures same { OnlyReads F.Shelf shelf.old shelf.new }
 {
     let members = match members_from(alloc, shelf, asked.members) {
         Ok(members) => members,

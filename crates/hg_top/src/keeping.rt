@@ -1,6 +1,6 @@
-ghost use Rattle.std.specs.Prelude.{◌≡◌, ◌<◌, Some, length};
+ghost use Rattle.std.specs.Prelude.{◌<◌, Some, length};
 ghost use Rattle.hg_top.specs.Commands.{files_of, keep_work, own_work};
-ghost use Rattle.hg_top.specs.Course.{course, disk_course};
+ghost use Rattle.hg_top.specs.Course.{OnlyReads, course, disk_course};
 ghost use Rattle.hg_top.specs.Ends.{Ends};
 ghost use Rattle.hg_top.specs.Keeps.{KeptOn, work_on};
 
@@ -62,7 +62,7 @@ fn keep_events<F: Shelf, D: Disk, K: Sink>(
     requires { own < length members.now.entries }
     ensures ends { Ends (own_work (files_of asked.now) members.now (Some own))
         (course F.Shelf K.Sink shelf.old shelf.new out.old out.new (disk_course D.Disk disk.old disk.new)) result }
-    ensures same { F.holds shelf.new ≡ F.holds shelf.old }
+    ensures same { OnlyReads F.Shelf shelf.old shelf.new }
 {
     let events = match events_from(alloc, shelf, asked.events) {
         Ok(events) => events,
@@ -87,7 +87,7 @@ pub(crate) fn keep<F: Shelf, D: Disk, K: Sink>(
 ) -> Status
     ensures ends { Ends (keep_work (files_of asked.now))
         (course F.Shelf K.Sink shelf.old shelf.new out.old out.new (disk_course D.Disk disk.old disk.new)) result }
-    ensures same { F.holds shelf.new ≡ F.holds shelf.old }
+    ensures same { OnlyReads F.Shelf shelf.old shelf.new }
 {
     let members = match members_from(alloc, shelf, asked.members) {
         Ok(members) => members,

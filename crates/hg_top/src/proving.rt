@@ -1,6 +1,6 @@
-ghost use Rattle.std.specs.Prelude.{◌≡◌, ◌<◌, length};
+ghost use Rattle.std.specs.Prelude.{◌<◌, length};
 ghost use Rattle.hg_top.specs.Commands.{certificate_work, check_work, node_files, prove_work};
-ghost use Rattle.hg_top.specs.Course.{course, no_disk};
+ghost use Rattle.hg_top.specs.Course.{OnlyReads, course, no_disk};
 ghost use Rattle.hg_top.specs.Ends.{Ends};
 
 use crate::exchanging::NodeRequest;
@@ -25,7 +25,7 @@ fn prove_play<F: Shelf, K: Sink>(
     requires { own < length members.now.entries }
     ensures ends { Ends (certificate_work script.now members.now own)
         (course F.Shelf K.Sink shelf.old shelf.new out.old out.new no_disk) result }
-    ensures same { F.holds shelf.new ≡ F.holds shelf.old }
+    ensures same { OnlyReads F.Shelf shelf.old shelf.new }
 {
     let lines = match lines_from(alloc, shelf, script, members, 0) {
         Ok(lines) => lines,
@@ -46,7 +46,7 @@ pub(crate) fn prove<F: Shelf, K: Sink>(
 ) -> Status
     ensures ends { Ends (prove_work (node_files asked.now))
         (course F.Shelf K.Sink shelf.old shelf.new out.old out.new no_disk) result }
-    ensures same { F.holds shelf.new ≡ F.holds shelf.old }
+    ensures same { OnlyReads F.Shelf shelf.old shelf.new }
 {
     let members = match members_from(alloc, shelf, asked.members) {
         Ok(members) => members,
@@ -68,7 +68,7 @@ pub(crate) fn check<F: Shelf, K: Sink>(
 ) -> Status
     ensures ends { Ends (check_work members.now proof.now)
         (course F.Shelf K.Sink shelf.old shelf.new out.old out.new no_disk) result }
-    ensures same { F.holds shelf.new ≡ F.holds shelf.old }
+    ensures same { OnlyReads F.Shelf shelf.old shelf.new }
 {
     let list = match members_from(alloc, shelf, members) {
         Ok(list) => list,

@@ -1,6 +1,6 @@
-ghost use Rattle.std.specs.Prelude.{◌≡◌, ◌≤◌, IfOk};
+ghost use Rattle.std.specs.Prelude.{◌≤◌, IfOk};
 ghost use Rattle.hg_top.specs.Commands.{IsStormOutcome, storm_of, storm_work};
-ghost use Rattle.hg_top.specs.Course.{course, no_disk};
+ghost use Rattle.hg_top.specs.Course.{OnlyReads, course, no_disk};
 ghost use Rattle.hg_top.specs.Ends.{Ends};
 
 use crate::reading::members_from;
@@ -67,7 +67,7 @@ pub(crate) fn storm<R: Threads + Wait + Sync, F: Shelf, K: Sink, G: Gate + Sync>
     requires { 1 ≤ asked.now.room }
     ensures ends { Ends (storm_work (storm_of asked.now))
         (course F.Shelf K.Sink shelf.old shelf.new out.old out.new no_disk) result }
-    ensures same { F.holds shelf.new ≡ F.holds shelf.old }
+    ensures same { OnlyReads F.Shelf shelf.old shelf.new }
 {
     let members = match members_from(alloc, shelf, asked.members) {
         Ok(members) => members,

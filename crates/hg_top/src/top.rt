@@ -1,9 +1,9 @@
-ghost use Rattle.std.specs.Prelude.{◌≡◌, ◌≤◌, ℕ};
+ghost use Rattle.std.specs.Prelude.{◌≡◌, ◌≤◌, ℕ, false};
 ghost use Rattle.hg_top.specs.Commands.{IsSummaryOf, KeepsNothing, asks, made_run, run_work, script_work, work_of};
-ghost use Rattle.hg_top.specs.Course.{course, disk_course, no_disk};
+ghost use Rattle.hg_top.specs.Course.{OnlyReads, course, disk_course, no_disk};
 ghost use Rattle.hg_top.specs.Ends.{Completes, Ends, ReadsNoFile};
 ghost use Rattle.hg_top.specs.Printing.{IsPrintedOn, status_line};
-ghost use Rattle.hg_top.specs.Writing.{WroteOn};
+ghost use Rattle.hg_top.specs.Writing.{WroteOn, may_write};
 
 use crate::exchanging::{Exchange, NodeRequest, play_node};
 use crate::keeping::{KeepRequest, keep};
@@ -39,7 +39,7 @@ fn run_script<R: Threads + Wait + Sync, F: Shelf, K: Sink, G: Gate + Sync>(
     requires { workers ≤ 16 }
     ensures ends { Ends (script_work script.now workers members.now)
         (course F.Shelf K.Sink shelf.old shelf.new out.old out.new no_disk) result }
-    ensures same { F.holds shelf.new ≡ F.holds shelf.old }
+    ensures same { OnlyReads F.Shelf shelf.old shelf.new }
 {
     let lines = match lines_from(alloc, shelf, script, members, workers) {
         Ok(lines) => lines,
@@ -66,7 +66,7 @@ fn run<R: Threads + Wait + Sync, F: Shelf, K: Sink, G: Gate + Sync>(
     requires { workers ≤ 16 }
     ensures ends { Ends (run_work members.now script.now workers)
         (course F.Shelf K.Sink shelf.old shelf.new out.old out.new no_disk) result }
-    ensures same { F.holds shelf.new ≡ F.holds shelf.old }
+    ensures same { OnlyReads F.Shelf shelf.old shelf.new }
 {
     let list = match members_from(alloc, shelf, members) {
         Ok(list) => list,
@@ -113,6 +113,7 @@ fn make<R: Threads + Wait + Sync, K: Sink, G: Gate + Sync>(
 /// workers the fame of witnesses is decided by so many threads beside the one that plays the lines; what is written does
 /// not change with their number, and what is said of the safety of the run is said of it without the marks that workers
 /// give. They pass the points of `gate`. All that memory is taken for is done before the first byte is written to `out`.
+/// Where the status is neither `Done` nor `WriteFault` nothing is done to `out`, not even an attempt that fails.
 pub fn hashgraph<R: Threads + Wait + Sync, F: Shelf, D: Disk, K: Sink, E: Sink, G: Gate + Sync>(
     rt: &R,
     alloc: Global,
@@ -131,10 +132,11 @@ pub fn hashgraph<R: Threads + Wait + Sync, F: Shelf, D: Disk, K: Sink, E: Sink, 
     // That it must end with its text, or with the status of what is refused, if nothing fails and memory does not run out.
     ensures complete { Completes (work_of (asks words.now))
         (course F.Shelf K.Sink shelf.old shelf.new out.old out.new (disk_course D.Disk disk.old disk.new)) result }
+    ensures unwritten { may_write result ≡ false → out.new ≡ out.old }
     ensures unread { ReadsNoFile (work_of (asks words.now)) → shelf.new ≡ shelf.old }
     ensures unkept { KeepsNothing (asks words.now) → disk.new ≡ disk.old }
     ensures matches { IsPrintedOn E.Sink err.old err.new (status_line result) }
-    ensures same { F.holds shelf.new ≡ F.holds shelf.old }
+    ensures same { OnlyReads F.Shelf shelf.old shelf.new }
 {
     let status = match read_words(alloc, words) {
         Ok(

@@ -5,7 +5,7 @@ use Rattle.hg_top.specs.declared.status.Status.TheVariants.{Usage, Memory}
 use Rattle.hg_top.specs.Commands.{asks, check_work, exchange_work, made_run, played_work, prove_work, run_work, storm_work, work_of}
 use Rattle.hg_top.specs.Course.{course, disk_course, no_disk}
 use Rattle.hg_top.proofs.KeepLaws.{idle_disk}
-use Rattle.hg_top.proofs.WorkLaws.{comes_short, completes, diskless_check, diskless_played, diskless_prove, diskless_run, diskless_storm, ends_at, with_disk}
+use Rattle.hg_top.proofs.WorkLaws.{comes_short, completes, diskless_check, diskless_played, diskless_prove, diskless_run, diskless_storm, ends_at, unwritten, with_disk}
 use Rattle.hg_top.proofs.top.hashgraph.Goals as goal
 use Rattle.hg_top.proofs.top.hashgraph.Goals.{in-Ok-Some-Run, in-Ok-Some-Make, in-Ok-Some-Keep, in-Ok-Some-Prove, in-Ok-Some-Check, in-Ok-Some-Storm, in-Ok-Some-Ask, in-Ok-Some-Serve, in-Ok-Some-Take, in-Ok-None, in-Err}
 
@@ -90,5 +90,11 @@ returns-clause-ends g c =
 pub returns-clause-complete : goal.returns-clause-complete
 returns-clause-complete g c =
     completes (work_of (asks c.args.words.now))
+    (course g.F.Shelf g.K.Sink c.args.shelf.now c.match-read_words.shelf c.args.out.now c.match-read_words.out (disk_course g.D.Disk c.args.disk.now c.match-read_words.disk))
+    (g.F.Shelf.starts c.args.shelf.now) c.match-read_words.status (returns-clause-ends g c)
+
+pub returns-clause-unwritten : goal.returns-clause-unwritten
+returns-clause-unwritten g c =
+    unwritten (work_of (asks c.args.words.now))
     (course g.F.Shelf g.K.Sink c.args.shelf.now c.match-read_words.shelf c.args.out.now c.match-read_words.out (disk_course g.D.Disk c.args.disk.now c.match-read_words.disk))
     (g.F.Shelf.starts c.args.shelf.now) c.match-read_words.status (returns-clause-ends g c)
