@@ -23,21 +23,21 @@ use Rattle.hg_top.specs.declared.status.JournalFault.{JournalFault}
 use Rattle.hg_top.specs.declared.status.JournalFault.TheVariants.{Foreign, Broken}
 use Rattle.hg_top.specs.declared.status.Status.{Status}
 use Rattle.hg_top.specs.declared.status.Status.TheVariants.{Done, ReadFault, Usage, Members, Own, Script, Events, WriteFault, Memory, Disk, Journal, Proof, Wire}
-use Rattle.hg_top.specs.Course.{Course, DiskCourse, HasDiskFault, HasWriteFault, IsIdle, IsStill, disk_course, no_disk}
+use Rattle.hg_top.specs.Course.{CountsOn, Course, DiskCourse, HasDiskFault, HasWriteFault, IsIdle, IsStill, SinkCourse, disk_course, no_disk, sink_course}
 use Rattle.hg_top.specs.Keeps.{KeepEnds, KeepSpares, KeepSyncs, error_of, keep_status, open_status, start_for, status_for}
 use Rattle.hg_top.specs.Work.{KeepWork}
 use Rattle.hg_top.specs.Writing.{Gives, status_of}
 
 -- nothing was done to a disk
 pub idle_none : IsIdle no_disk
-idle_none = (stays_same unknown, tt)
+idle_none = (stays_same unknown, λ name. omega arith, tt)
 
 pub idle_disk : {D : Type 0} (W : disk.Ghosts D) (d : D) → IsIdle (disk_course W d d)
-idle_disk W d = (stays_same (W.file d), refl)
+idle_disk W d = (stays_same (W.file d), λ name. omega arith, refl)
 
 -- what stays is spared
-pub spares_still : (k : KeepWork) (d : DiskCourse) → IsStill d → KeepSpares k d
-spares_still k d still = (λ bytes told none. still, ap (λ (o : Option (List ℕ)). is_some o) still.reads)
+pub spares_still : (k : KeepWork) (d : DiskCourse) → IsStill d → CountsOn d → KeepSpares k d
+spares_still k d still counts = (λ bytes told none. still, ap (λ (o : Option (List ℕ)). is_some o) still.reads, counts)
 
 -- ---- what must come of the work
 
@@ -54,8 +54,7 @@ refused_due k bytes Foreign is = rw is refl
 refused_due k bytes (Broken at) is = rw is refl
 
 pub completes_keep : (k : KeepWork) (c : Course) (status : Status) →
-    KeepEnds k c.disk c.before.written c.after.written c.before.write_faults c.after.write_faults status →
-    (HasWriteFault c → ⊥) → (HasDiskFault c.disk k.journal → ⊥) → ForSome c.disk.before.reads (λ bytes. Gives (keep_status k bytes) status)
+    KeepEnds k c.disk c.out status → (HasWriteFault c → ⊥) → (HasDiskFault c.disk k.journal → ⊥) → ForSome c.disk.before.reads (λ bytes. Gives (keep_status k bytes) status)
 completes_keep k c Done ends written kept = λ bytes told.
     inl (text_due _ ends.1.1.0 (reading_of accepts_by (start_for k) bytes) (ends.1.1.2.keeps bytes told))
 completes_keep k c WriteFault ends written kept = absurd (written ends.0)
@@ -74,20 +73,20 @@ completes_keep k c (Wire refusal) ends written kept = absurd ends
 -- ---- what comes of the work
 
 -- where the disk, memory or the journal stops it
-pub stopped : {T : Type 0} (k : KeepWork) (d : DiskCourse) (before after : Option (List ℕ)) (m n : ℕ) (r : Result T OpenError) (s : OpenError) →
-    r ≡ Err s → after ≡ before → IsFaultCounted r open_error.Disk d.faults_before d.faults_after k.journal →
-    ForSome d.before.reads (λ bytes. IsWrong accepts_by (start_for k) bytes s) → StaysIfRefused s d.before d.after → KeepEnds k d before after m n (open_status s)
-stopped k d before after m n r open_error.Disk is same cause wrong refused = (same, cause is)
-stopped k d before after m n r open_error.Memory is same cause wrong refused = same
-stopped k d before after m n r open_error.Foreign is same cause wrong refused = (same, refused, wrong)
-stopped k d before after m n r (open_error.Broken at) is same cause wrong refused = (same, refused, wrong)
+pub stopped : {T : Type 0} (k : KeepWork) (d : DiskCourse) (o : SinkCourse) (r : Result T OpenError) (s : OpenError) →
+    r ≡ Err s → o.same → IsFaultCounted r open_error.Disk d.faults_before d.faults_after k.journal →
+    ForSome d.before.reads (λ bytes. IsWrong accepts_by (start_for k) bytes s) → StaysIfRefused s d.before d.after → KeepEnds k d o (open_status s)
+stopped k d o r open_error.Disk is same cause wrong refused = (same, cause is)
+stopped k d o r open_error.Memory is same cause wrong refused = same
+stopped k d o r open_error.Foreign is same cause wrong refused = (same, refused, wrong)
+stopped k d o r (open_error.Broken at) is same cause wrong refused = (same, refused, wrong)
 
 -- and where its text was written
 pub told : {S E : Type 0} (K : sink.Ghosts S) (out written : S) (k : KeepWork) (d : DiskCourse) (kept : KeepReport) (r : Result ⊤ E) →
     KeepsTask accepts_by k.members (start_for k) k.events k.time d.before d.after kept → Prints K out written (kept_text kept) r →
-    KeepEnds k d (K.written out) (K.written written) (K.faults out) (K.faults written) (status_of r)
-told K out written k d kept (Ok x) task prints = (kept_text kept, (kept, task, refl), prints.0)
-told K out written k d kept (Err e) task prints = (prints.1, (kept_text kept, (kept, task, refl), prints.0))
+    KeepEnds k d (sink_course K out written) (status_of r)
+told K out written k d kept (Ok x) task prints = (kept_text kept, (kept, task, refl), prints.0, prints.1)
+told K out written k d kept (Err e) task prints = (prints.1, prints.2, (kept_text kept, (kept, task, refl), prints.0))
 
 -- what a stop of the machine leaves, in both cases
 early_by : {T : Type 0} (r : Result T OpenError) (s : OpenError) → r ≡ Err s → IsErrOf r open_error.Disk → s ≡ open_error.Disk

@@ -11,13 +11,18 @@ use Rattle.hg_script.specs.declared.fault.ScriptFault.{ScriptFault}
 use Rattle.hg_script.specs.declared.line.Line.{Line}
 use Rattle.hg_script.specs.Script.{lines_of}
 use Rattle.hg_made.specs.Made.{generate}
-use Rattle.hg_command.specs.Asked.{Asked, KeepFiles, MadeRun, NodeFiles, StormRun, ask, check, keep, make, prove, request_of, run, serve, storm, take, texts}
+use Rattle.hg_command.specs.Asked.{Asked, CheckFiles, KeepFiles, MadeRun, NodeFiles, RunFiles, StormRun, ask, check, keep, keep_files, make, node_files, prove, request_of, run, serve, storm, take, texts}
+use Rattle.hg_command.specs.declared.request.KeepRequest.{KeepRequest}
+use Rattle.hg_command.specs.declared.request.NodeRequest.{NodeRequest}
 use Rattle.hg_certify.specs.Proving.{IsProofOf}
 use Rattle.hg_certify.specs.Showing.{IsSafeBeside, ShowsTo, judged_by}
 use Rattle.hg_certify.specs.Text.{shown_text}
 use Rattle.hg_exchange.specs.declared.message.MessageFault.{MessageFault}
 use Rattle.hg_exchange.specs.Exchanges.{IsAnswering, IsAsking, IsTakingText, played_node}
 use Rattle.hg_exchange.specs.Messages.{message_of}
+use Rattle.hg_io.specs.declared.disk.Disk as disk
+use Rattle.hg_io.specs.declared.shelf.Shelf as shelf
+use Rattle.hg_io.specs.declared.sink.Sink as sink
 use Rattle.hg_keep.specs.Events.{events_of}
 use Rattle.hg_keep.specs.declared.events.EventFault.{EventFault}
 use Rattle.hg_play.specs.Agree.{IsAgreed}
@@ -34,13 +39,11 @@ use Rattle.hg_wire.specs.declared.message.Want.TheVariants.{Have, Rows}
 use Rattle.hg_world.specs.World.{Secrets, WorldView}
 use Rattle.hg_top.specs.declared.exchanging.Exchange.{Exchange}
 use Rattle.hg_top.specs.declared.exchanging.Exchange.TheVariants.{Ask, Serve, Take}
-use Rattle.hg_top.specs.declared.exchanging.NodeRequest.{NodeRequest}
-use Rattle.hg_top.specs.declared.keeping.KeepRequest.{KeepRequest}
-use Rattle.hg_top.specs.declared.storming.StormRequest.{StormRequest}
 use Rattle.hg_top.specs.declared.status.File.TheVariants as file
 use Rattle.hg_top.specs.declared.status.Refusal.TheVariants.{Fault}
 use Rattle.hg_top.specs.declared.status.Status.{Status}
 use Rattle.hg_top.specs.declared.status.Status.TheVariants.{Usage, Members, Own, Script, Events, Proof, Wire}
+use Rattle.hg_top.specs.Ends.{EndsOnDisk}
 use Rattle.hg_top.specs.Work.{Work, takes}
 use Rattle.hg_top.specs.Work.Work.{Writes, Stops, Keeps}
 
@@ -105,8 +108,8 @@ abbrev pub script_work : List ℕ → ℕ → MemberList → Work
 script_work name workers members = lines_work name members workers (report_work members)
 
 -- reads the member file, then the script
-abbrev pub run_work : List ℕ → List ℕ → ℕ → Work
-run_work members script workers = members_work members (script_work script workers)
+abbrev pub run_work : RunFiles → Work
+run_work r = members_work r.members (script_work r.script r.workers)
 
 -- ---- make
 
@@ -150,8 +153,14 @@ abbrev pub keep_work : KeepFiles → Work
 keep_work k = members_work k.members (λ members. own_work k members (own_in members k.own))
 
 -- what `keep` was asked for
-abbrev pub files_of : KeepRequest → KeepFiles
-files_of k = record { members = k.members.now; events = k.events.now; own = k.own.now; disk = k.disk.now; time = k.time }
+abbrev pub keep_for : KeepRequest → Work
+keep_for r = keep_work (keep_files r)
+
+-- how a call ended that put the events to the node of this member: a shelf F, standard output K and a disk W, each before
+-- and after
+abbrev pub OwnKeepEnds : {S T D : Type 0} → shelf.Ghosts S → sink.Ghosts T → disk.Ghosts D → S → S → T → T → D → D → KeepRequest → MemberList → ℕ → Status → Type 0
+OwnKeepEnds F K W s t out written before after r members own status =
+    EndsOnDisk F K W s t out written before after (own_work (keep_files r) members (Some own)) status
 
 -- ---- prove
 
@@ -182,8 +191,8 @@ abbrev pub answer_work : MemberList → Certificate → Work
 answer_work members shown = Writes (IsAnswerOf members shown)
 
 -- reads the member file, then the proof
-abbrev pub check_work : List ℕ → List ℕ → Work
-check_work members proof = members_work members (λ list. shown_work proof list (answer_work list))
+abbrev pub check_work : CheckFiles → Work
+check_work c = members_work c.members (λ list. shown_work c.proof list (answer_work list))
 
 -- ---- storm
 
@@ -213,10 +222,6 @@ heads_work r members = Writes (IsStormText r members)
 abbrev pub storm_work : StormRun → Work
 storm_work r = members_work r.members (heads_work r)
 
--- what was asked of a storm
-abbrev pub storm_of : StormRequest → StormRun
-storm_of r = record { members = r.members.now; turns = r.turns; seed = r.seed; room = r.room }
-
 -- ---- ask, serve and take
 
 -- what the node v of one of these members asks, after a script
@@ -239,25 +244,35 @@ play_work script next members own = lines_work script members 0 (λ lines. next 
 abbrev pub played_work : NodeFiles → (MemberList → NodeView Secrets → Work) → Work
 played_work f next = members_work f.members (λ members. if_own (own_in members f.own) (play_work f.script next members))
 
--- what was asked for
-abbrev pub node_files : NodeRequest → NodeFiles
-node_files f = record { members = f.members.now; script = f.script.now; own = f.own.now }
-
+-- what a node does
 abbrev pub exchange_work : Exchange → MemberList → NodeView Secrets → Work
 exchange_work Ask = ask_work
 exchange_work (Serve have) = serve_work have.now
 exchange_work (Take rows) = take_work rows.now
+
+-- .. once these lines were played, or the script of this name, or that of a request
+abbrev pub serve_after : MemberList → List Line → ℕ → List ℕ → Work
+serve_after members lines own have = serve_work have members (played_node members lines own)
+
+abbrev pub take_after : MemberList → List Line → ℕ → List ℕ → Work
+take_after members lines own rows = take_work rows members (played_node members lines own)
+
+abbrev pub exchange_by : MemberList → ℕ → List ℕ → Exchange → Work
+exchange_by members own script exchange = play_work script (exchange_work exchange) members own
+
+abbrev pub exchange_for : NodeRequest → Exchange → Work
+exchange_for r exchange = played_work (node_files r) (exchange_work exchange)
 
 -- ---- all commands
 
 -- the work that was asked for; words that are not accepted have their status
 abbrev pub work_of : Option Asked → Work
 work_of None = Stops Usage
-work_of (Some (run r)) = run_work r.members r.script r.workers
+work_of (Some (run r)) = run_work r
 work_of (Some (make m)) = make_work m
 work_of (Some (keep k)) = keep_work k
 work_of (Some (prove f)) = prove_work f
-work_of (Some (check c)) = check_work c.members c.proof
+work_of (Some (check c)) = check_work c
 work_of (Some (storm r)) = storm_work r
 work_of (Some (ask f)) = played_work f ask_work
 work_of (Some (serve f have)) = played_work f (serve_work have)
@@ -272,6 +287,6 @@ KeepsNothing _ = ⊤
 abbrev pub asks : List (String Global) → Option Asked
 asks words = request_of (texts words)
 
--- a run of so many members and lines, made from the seed, with so many workers
-abbrev pub made_run : ℕ → ℕ → ℕ → ℕ → MadeRun
-made_run members lines seed workers = record { members = members; lines = lines; seed = seed; workers = workers }
+-- the work that these words ask for
+abbrev pub work_for : List (String Global) → Work
+work_for words = work_of (asks words)

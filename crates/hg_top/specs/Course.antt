@@ -1,5 +1,5 @@
 -- The course of a call: what the outside counts and tells before and after it
-use Rattle.std.specs.Prelude.{ℕ, ◌≡◌, ◌<◌, ◌≤◌, ⊤, List, length, Option, Some, IfSome, IsSomeAnd}
+use Rattle.std.specs.Prelude.{ℕ, ◌≡◌, ◌<◌, ◌≤◌, ⊤, List, length, Option, Some, None, IfSome, IsSomeAnd}
 use Rattle.hg_io.specs.Faults.{Rose, raised}
 use Rattle.hg_io.specs.FileView.{FileView, Stays, unknown}
 use Rattle.hg_io.specs.Files.{Files, content_of}
@@ -7,16 +7,44 @@ use Rattle.hg_io.specs.declared.disk.Disk as disk
 use Rattle.hg_io.specs.declared.shelf.Shelf as shelf
 use Rattle.hg_io.specs.declared.sink.Sink as sink
 
--- what the outside counts and tells: the shelf's starts of files and its faults by name, and the faults and the bytes of
--- standard output
-pub record Outside : Type 0 where
-  pub starts : ℕ
-  pub read_faults : List ℕ → ℕ
-  pub write_faults : ℕ
-  pub written : Option (List ℕ)
+-- what became of a shelf: what it has, where it tells it, and its starts of files and its faults by name, before and after
+pub record ShelfCourse : Type 0 where
+  pub holds : Option Files
+  pub starts_before : ℕ
+  pub starts_after : ℕ
+  pub faults_before : List ℕ → ℕ
+  pub faults_after : List ℕ → ℕ
 
-abbrev pub outside : {S : Type 0} → shelf.Ghosts S → S → ℕ → Option (List ℕ) → Outside
-outside F s faults written = record { starts = F.starts s; read_faults = F.faults s; write_faults = faults; written = written }
+abbrev pub shelf_course : {S : Type 0} → shelf.Ghosts S → S → S → ShelfCourse
+shelf_course F before after = record {
+  holds = F.holds before;
+  starts_before = F.starts before;
+  starts_after = F.starts after;
+  faults_before = F.faults before;
+  faults_after = F.faults after;
+}
+
+-- what became of a sink: its bytes, where it tells them, and its faults, each before and after, and what says that no call
+-- changed it
+pub record SinkCourse : Type 1 where
+  pub before : Option (List ℕ)
+  pub after : Option (List ℕ)
+  pub faults_before : ℕ
+  pub faults_after : ℕ
+  pub same : Type 0
+
+abbrev pub sink_course : {T : Type 0} → sink.Ghosts T → T → T → SinkCourse
+sink_course K before after = record {
+  before = K.written before;
+  after = K.written after;
+  faults_before = K.faults before;
+  faults_after = K.faults after;
+  same = after ≡ before;
+}
+
+-- that of a call that has none
+abbrev pub no_sink : SinkCourse
+no_sink = record { before = None; after = None; faults_before = 0; faults_after = 0; same = ⊤ }
 
 -- what became of a disk: its file and its faults by name, each before and after, and what says that no call changed it
 pub record DiskCourse : Type 1 where
@@ -43,52 +71,45 @@ still file faults = record { before = file; after = file; faults_before = faults
 abbrev pub no_disk : DiskCourse
 no_disk = still unknown (λ name. 0)
 
--- the course of a call: the files of the shelf, where it tells them, the outside before and after, and the disk
+-- the course of a call: what became of its shelf, of standard output and of its disk
 pub record Course : Type 1 where
-  pub holds : Option Files
-  pub before : Outside
-  pub after : Outside
+  pub shelf : ShelfCourse
+  pub out : SinkCourse
   pub disk : DiskCourse
 
 -- that of a call with a shelf F and standard output K, each before and after
 abbrev pub course : {S T : Type 0} → shelf.Ghosts S → sink.Ghosts T → S → S → T → T → DiskCourse → Course
-course F K s t out written d = record {
-  holds = F.holds s;
-  before = outside F s (K.faults out) (K.written out);
-  after = outside F t (K.faults written) (K.written written);
-  disk = d;
-}
+course F K s t out written d = record { shelf = shelf_course F s t; out = sink_course K out written; disk = d }
 
--- that of a call with a shelf alone, while standard output failed so often and has these bytes
-abbrev pub reading : {S : Type 0} → shelf.Ghosts S → S → S → ℕ → Option (List ℕ) → DiskCourse → Course
-reading F s t faults written d =
-    record { holds = F.holds s; before = outside F s faults written; after = outside F t faults written; disk = d }
-
--- nothing was written to standard output
-abbrev pub WritesNothing : Course → Type 0
-WritesNothing c = c.after.written ≡ c.before.written
+-- that of a call with a shelf alone
+abbrev pub reading : {S : Type 0} → shelf.Ghosts S → S → S → Course
+reading F s t = record { shelf = shelf_course F s t; out = no_sink; disk = no_disk }
 
 -- nothing was written to the disk
 abbrev pub IsStill : DiskCourse → Type 0
 IsStill d = Stays d.before d.after
 
+-- no count of its faults fell
+abbrev pub CountsOn : DiskCourse → Type 0
+CountsOn d = (name : List ℕ) → d.faults_before name ≤ d.faults_after name
+
 -- nothing at all was done to it: no file was started there
 abbrev pub IsIdle : DiskCourse → Type 0
-IsIdle d = IsStill d × d.same
+IsIdle d = IsStill d × CountsOn d × d.same
 
--- the starts have come to this number, and standard output and the disk stand where they stood
+-- the starts have come to this number, and nothing was done to standard output or the disk
 abbrev pub IsQuiet : Course → ℕ → Type 0
-IsQuiet c starts = (c.after.starts ≡ starts) × WritesNothing c × IsIdle c.disk
+IsQuiet c starts = (c.shelf.starts_after ≡ starts) × c.out.same × IsIdle c.disk
 
 -- the shelf failed at a name, or the disk did, or standard output
 abbrev pub HasReadFault : Course → List ℕ → Type 0
-HasReadFault c name = Rose (c.before.read_faults name) (c.after.read_faults name)
+HasReadFault c name = Rose (c.shelf.faults_before name) (c.shelf.faults_after name)
 
 abbrev pub HasDiskFault : DiskCourse → List ℕ → Type 0
 HasDiskFault d name = Rose (d.faults_before name) (d.faults_after name)
 
 abbrev pub HasWriteFault : Course → Type 0
-HasWriteFault c = Rose c.before.write_faults c.after.write_faults
+HasWriteFault c = Rose c.out.faults_before c.out.faults_after
 
 -- the shelf has these bytes under the name, where it tells what it has
 abbrev pub Has : Option Files → List ℕ → List ℕ → Type 0
@@ -106,8 +127,10 @@ HasMore holds name limit = IfSome holds (λ files. IsSomeAnd (content_of files n
 abbrev pub Tells : Option Files → List ℕ → List ℕ → Type 0
 Tells holds name bytes = IsSomeAnd holds (λ files. content_of files name ≡ Some bytes)
 
--- one file was started: the shelf F has what it had, and no count of its faults fell
+-- a shelf F was read, and no more: it has what it had, and no count of its faults fell
+abbrev pub OnlyReads : {S : Type 0} → shelf.Ghosts S → S → S → Type 0
+OnlyReads F before after = (F.holds after ≡ F.holds before) × ((name : List ℕ) → F.faults before name ≤ F.faults after name)
+
+-- one file was started there
 abbrev pub StartsOne : {S : Type 0} → shelf.Ghosts S → S → S → Type 0
-StartsOne F before after =
-    (F.starts after ≡ raised (F.starts before)) × (F.holds after ≡ F.holds before)
-    × ((name : List ℕ) → F.faults before name ≤ F.faults after name)
+StartsOne F before after = (F.starts after ≡ raised (F.starts before)) × OnlyReads F before after

@@ -1,5 +1,5 @@
 -- What comes of the work on a node that is kept in a journal
-use Rattle.std.specs.Prelude.{ℕ, ◌≡◌, ◌⊎◌, ⊤, List, Option, is_some}
+use Rattle.std.specs.Prelude.{ℕ, ◌≡◌, ◌⊎◌, ⊤, List, is_some}
 use Rattle.std.specs.Option.{ForSome}
 use Rattle.hg_io.specs.declared.sink.Sink as sink
 use Rattle.hg_life.specs.Members.{MemberList}
@@ -20,7 +20,7 @@ use Rattle.hg_top.specs.declared.status.JournalFault.{JournalFault}
 use Rattle.hg_top.specs.declared.status.JournalFault.TheVariants.{Foreign, Broken}
 use Rattle.hg_top.specs.declared.status.Status.{Status}
 use Rattle.hg_top.specs.declared.status.Status.TheVariants.{Done, Memory, Disk, Journal}
-use Rattle.hg_top.specs.Course.{DiskCourse, HasDiskFault, IsStill}
+use Rattle.hg_top.specs.Course.{CountsOn, DiskCourse, HasDiskFault, IsStill, SinkCourse, sink_course}
 use Rattle.hg_top.specs.Work.{KeepWork}
 use Rattle.hg_top.specs.Writing.{Wrote}
 
@@ -53,13 +53,12 @@ error_of Foreign = open_error.Foreign
 error_of (Broken at) = open_error.Broken at
 
 -- How it ended: the disk failed at the journal's name; or the file that it tells is so refused, and stays; or the text went
--- to standard output, whose bytes and faults are told as in `Wrote`
-abbrev pub KeepEnds : KeepWork → DiskCourse → Option (List ℕ) → Option (List ℕ) → ℕ → ℕ → Status → Type 0
-KeepEnds k d before after faults_before faults_after Disk = (after ≡ before) × HasDiskFault d k.journal
-KeepEnds k d before after faults_before faults_after (Journal why) =
-    (after ≡ before) × IsStill d × ForSome d.before.reads (λ bytes. IsWrong accepts_by (start_for k) bytes (error_of why))
-KeepEnds k d before after faults_before faults_after status =
-    Wrote (IsKeptText k d) before after faults_before faults_after status
+-- to standard output, as in `Wrote`
+abbrev pub KeepEnds : KeepWork → DiskCourse → SinkCourse → Status → Type 0
+KeepEnds k d o Disk = o.same × HasDiskFault d k.journal
+KeepEnds k d o (Journal why) =
+    o.same × IsStill d × ForSome d.before.reads (λ bytes. IsWrong accepts_by (start_for k) bytes (error_of why))
+KeepEnds k d o status = Wrote (IsKeptText k d) o status
 
 -- such a status may come before the first sync
 abbrev pub IsEarly : Status → Type 0
@@ -75,14 +74,14 @@ KeepSyncs k d status =
     ⊎ (IsEarly status × IsStill d)
 
 -- What it leaves of the file whatever the status: one that is not the journal of the node, or a broken one, as it was; and
--- the disk tells it just where it did
+-- the disk tells it just where it did, and no count of its faults fell
 abbrev pub KeepSpares : KeepWork → DiskCourse → Type 0
-KeepSpares k d = SparesOthers accepts_by (start_for k) d.before d.after × (is_some d.after.reads ≡ is_some d.before.reads)
+KeepSpares k d =
+    SparesOthers accepts_by (start_for k) d.before d.after × (is_some d.after.reads ≡ is_some d.before.reads) × CountsOn d
 
 -- all of this, of a sink K, before and after
 abbrev pub KeptOn : {S : Type 0} → sink.Ghosts S → S → S → DiskCourse → KeepWork → Status → Type 0
-KeptOn K before after d k status =
-    KeepEnds k d (K.written before) (K.written after) (K.faults before) (K.faults after) status × KeepSyncs k d status × KeepSpares k d
+KeptOn K before after d k status = KeepEnds k d (sink_course K before after) status × KeepSyncs k d status × KeepSpares k d
 
 -- the status that is due for what a file stands for
 abbrev pub status_for : {S : Type 0} → Reading S → Status

@@ -1,32 +1,18 @@
-ghost use Rattle.std.specs.Prelude.{◌≡◌, ◌<◌, Some, length};
-ghost use Rattle.hg_top.specs.Commands.{files_of, keep_work, own_work};
-ghost use Rattle.hg_top.specs.Course.{course, disk_course};
-ghost use Rattle.hg_top.specs.Ends.{Ends};
+ghost use Rattle.std.specs.Prelude.{◌<◌, length};
+ghost use Rattle.hg_top.specs.Commands.{OwnKeepEnds, keep_for};
+ghost use Rattle.hg_top.specs.Course.{OnlyReads, disk_course};
+ghost use Rattle.hg_top.specs.Ends.{EndsOnDisk};
 ghost use Rattle.hg_top.specs.Keeps.{KeptOn, work_on};
 
 use crate::reading::{events_from, members_from, own_in};
 use crate::status::{Status, open_status, status_of};
+use hg_command::KeepRequest;
 use hg_io::{Disk, Shelf, Sink};
 use hg_keep::{Task, write_kept};
 use hg_life::Members;
 use hg_model::{Member, Memory};
 use hg_sign::MacTable;
 use std::alloc::Global;
-
-/// What is asked of a member's node.
-#[derive(Clone, Copy)]
-pub(crate) struct KeepRequest<'a> {
-    /// The name of the member file.
-    pub(crate) members: &'a str,
-    /// The name of the file of the events that are put to the node.
-    pub(crate) events: &'a str,
-    /// The name of the member.
-    pub(crate) own: &'a str,
-    /// The name of the journal's file.
-    pub(crate) disk: &'a str,
-    /// The time of the event that the node makes, if it is to make one.
-    pub(crate) time: Option<u64>,
-}
 
 /// What a task on the node of one of these members comes to.
 fn keep_node<D: Disk, K: Sink>(
@@ -60,9 +46,8 @@ fn keep_events<F: Shelf, D: Disk, K: Sink>(
     out: &mut K,
 ) -> Status
     requires { own < length members.now.entries }
-    ensures ends { Ends (own_work (files_of asked.now) members.now (Some own))
-        (course F.Shelf K.Sink shelf.old shelf.new out.old out.new (disk_course D.Disk disk.old disk.new)) result }
-    ensures same { F.holds shelf.new ≡ F.holds shelf.old }
+    ensures ends { OwnKeepEnds F.Shelf K.Sink D.Disk shelf.old shelf.new out.old out.new disk.old disk.new asked.now members.now own result }
+    ensures same { OnlyReads F.Shelf shelf.old shelf.new }
 {
     let events = match events_from(alloc, shelf, asked.events) {
         Ok(events) => events,
@@ -85,9 +70,8 @@ pub(crate) fn keep<F: Shelf, D: Disk, K: Sink>(
     disk: &mut D,
     out: &mut K,
 ) -> Status
-    ensures ends { Ends (keep_work (files_of asked.now))
-        (course F.Shelf K.Sink shelf.old shelf.new out.old out.new (disk_course D.Disk disk.old disk.new)) result }
-    ensures same { F.holds shelf.new ≡ F.holds shelf.old }
+    ensures ends { EndsOnDisk F.Shelf K.Sink D.Disk shelf.old shelf.new out.old out.new disk.old disk.new (keep_for asked.now) result }
+    ensures same { OnlyReads F.Shelf shelf.old shelf.new }
 {
     let members = match members_from(alloc, shelf, asked.members) {
         Ok(members) => members,
