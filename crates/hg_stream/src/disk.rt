@@ -1,6 +1,8 @@
-ghost use Rattle.std.specs.Prelude.{◌≡◌, ◌≤◌};
+ghost use Rattle.std.specs.Prelude.{◌≡◌, ◌≤◌, true, length, IfOk, OnOk};
+ghost use Rattle.std.specs.Fs.{new_options, with_create, with_read, with_write};
 ghost use Rattle.hg_io.specs.Faults.{Rose};
 ghost use Rattle.hg_io.specs.FileView.{unknown};
+ghost use Rattle.hg_stream.specs.Places.{IsReadAt, IsWrittenAt};
 
 use hg_io::{Disk, Failed};
 use std::fs::{OpenFile, OpenOptions};
@@ -39,7 +41,28 @@ fn fault(faults: &mut u64) -> Failed
     Failed
 }
 
-fn write_at<W: Write + Seek>(file: &mut W, at: u64, piece: &[u8]) -> io::Result<()> {
+/// How the file is opened: to be read and written, and made where it is not there. What stands in it stays.
+fn opening() -> OpenOptions
+    ensures { result ≡ with_create (with_write (with_read new_options true) true) true }
+{
+    let mut how = OpenOptions::new();
+    how.read(true).write(true).create(true);
+    how
+}
+
+/// Reads at a place.
+fn read_at<F: Read + Seek>(file: &mut F, at: u64, buf: &mut [u8]) -> io::Result<usize>
+    ensures within { IfOk result (λ k. k ≤ length buf.new) }
+    ensures read { IfOk result (IsReadAt F.stream_position F.remaining file.old file.new at buf.new) }
+{
+    file.seek(SeekFrom::Start(at))?;
+    file.read(buf)
+}
+
+/// Writes all of a piece at a place.
+fn write_at<W: Write + Seek>(file: &mut W, at: u64, piece: &[u8]) -> io::Result<()>
+    ensures { OnOk result (IsWrittenAt W.stream_position W.contents file.old file.new at piece.now) }
+{
     file.seek(SeekFrom::Start(at))?;
     file.write_all(piece)
 }
@@ -57,9 +80,7 @@ impl<R: Files> Disk for RealDisk<'_, R> {
     ghost sound = { λ _. unknown_is_file };
 
     fn start(&mut self, name: &str) -> Result<(), Failed> {
-        let mut how = OpenOptions::new();
-        how.read(true).write(true).create(true);
-        match how.open(self.files, name) {
+        match opening().open(self.files, name) {
             Ok(file) => {
                 self.file = Some(file);
                 Ok(())
@@ -76,11 +97,7 @@ impl<R: Files> Disk for RealDisk<'_, R> {
     }
 
     fn read(&mut self, _name: &str, at: u64, buf: &mut [u8]) -> Result<usize, Failed> {
-        let file = self.file.as_mut().unwrap();
-        if file.seek(SeekFrom::Start(at)).is_err() {
-            return Err(fault(&mut self.faults));
-        }
-        match file.read(buf) {
+        match read_at(self.file.as_mut().unwrap(), at, buf) {
             Ok(count) => Ok(count),
             Err(_) => Err(fault(&mut self.faults)),
         }
