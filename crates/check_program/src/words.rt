@@ -1,4 +1,4 @@
-use hg_command::{Request, read_words};
+use hg_command::{MakeRequest, Request, RunRequest, StormRequest, read_words};
 use std::alloc::Global;
 use std::process::Abort;
 use std::test::Fail;
@@ -110,30 +110,30 @@ fn lines_are_refused(rt: HostRuntime) -> Result<(), Fail> {
 fn names_are_handed_over(rt: HostRuntime) -> Result<(), Fail> {
     let words = words_of(rt.alloc(), "run|--script=a b|--workers|0|--members|m.toml")?;
     let request = read_words(rt.alloc(), words.as_slice())?;
-    let wanted = Request::Run {
+    let wanted = Request::Run(RunRequest {
         members: "m.toml",
         script: "a b",
         workers: 0,
-    };
+    });
     assert_eq!(rt; request, Some(wanted));
     let made = words_of(
         rt.alloc(),
         "make|--workers|4|--members|7|--seed|1|--lines|2000",
     )?;
-    let wanted = Request::Make {
+    let wanted = Request::Make(MakeRequest {
         members: 7,
         lines: 2000,
         seed: 1,
         workers: 4,
-    };
+    });
     assert_eq!(rt; read_words(rt.alloc(), made.as_slice())?, Some(wanted));
     let storm = words_of(rt.alloc(), "storm|--members|m.toml|--turns|3|--seed|7")?;
-    let wanted = Request::Storm {
+    let wanted = Request::Storm(StormRequest {
         members: "m.toml",
         turns: 3,
         seed: 7,
         room: 1_024,
-    };
+    });
     assert_eq!(rt; read_words(rt.alloc(), storm.as_slice())?, Some(wanted));
     assert_eq!(rt; read_words(rt.alloc(), &[])?, None);
     Ok(())

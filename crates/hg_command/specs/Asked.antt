@@ -8,8 +8,14 @@ use Rattle.clap.specs.ValueTests.{accepts}
 use Rattle.clap.specs.declared.builder.ValueParser.TheVariants.{Unsigned}
 use Rattle.hg_life.specs.Workers.{most_workers}
 use Rattle.hg_command.specs.Line.{app_with, most_of_bits, needed, number_option, program_with, text_option, wide_option}
+use Rattle.hg_command.specs.declared.request.CheckRequest.{CheckRequest}
+use Rattle.hg_command.specs.declared.request.KeepRequest.{KeepRequest}
+use Rattle.hg_command.specs.declared.request.MakeRequest.{MakeRequest}
+use Rattle.hg_command.specs.declared.request.NodeRequest.{NodeRequest}
 use Rattle.hg_command.specs.declared.request.Request.{Request}
 use Rattle.hg_command.specs.declared.request.Request.TheVariants as request
+use Rattle.hg_command.specs.declared.request.RunRequest.{RunRequest}
+use Rattle.hg_command.specs.declared.request.StormRequest.{StormRequest}
 
 -- ---- what may be asked for
 
@@ -64,21 +70,35 @@ pub data Asked : Type 0 where
   serve : NodeFiles → Text → Asked
   take : NodeFiles → Text → Asked
 
--- a request, with its texts
+-- requests, with their texts
+abbrev pub run_files : RunRequest → RunFiles
+run_files r = record { members = r.members.now; script = r.script.now; workers = r.workers }
+
+abbrev pub made_run : MakeRequest → MadeRun
+made_run r = record { members = r.members; lines = r.lines; seed = r.seed; workers = r.workers }
+
+abbrev pub keep_files : KeepRequest → KeepFiles
+keep_files r = record { members = r.members.now; events = r.events.now; own = r.own.now; disk = r.disk.now; time = r.time }
+
+abbrev pub node_files : NodeRequest → NodeFiles
+node_files r = record { members = r.members.now; script = r.script.now; own = r.own.now }
+
+abbrev pub check_files : CheckRequest → CheckFiles
+check_files r = record { members = r.members.now; proof = r.proof.now }
+
+abbrev pub storm_run : StormRequest → StormRun
+storm_run r = record { members = r.members.now; turns = r.turns; seed = r.seed; room = r.room }
+
 abbrev pub asked : Request → Asked
-asked (request.Run members script workers) = run (record { members = members.now; script = script.now; workers = workers })
-asked (request.Make members lines seed workers) =
-    make (record { members = members; lines = lines; seed = seed; workers = workers })
-asked (request.Keep members events own disk time) =
-    keep (record { members = members.now; events = events.now; own = own.now; disk = disk.now; time = time })
-asked (request.Prove members script own) = prove (record { members = members.now; script = script.now; own = own.now })
-asked (request.Check members proof) = check (record { members = members.now; proof = proof.now })
-asked (request.Storm members turns seed room) = storm (record { members = members.now; turns = turns; seed = seed; room = room })
-asked (request.Ask members script own) = ask (record { members = members.now; script = script.now; own = own.now })
-asked (request.Serve members script own have) =
-    serve (record { members = members.now; script = script.now; own = own.now }) have.now
-asked (request.Take members script own rows) =
-    take (record { members = members.now; script = script.now; own = own.now }) rows.now
+asked (request.Run r) = run (run_files r)
+asked (request.Make r) = make (made_run r)
+asked (request.Keep r) = keep (keep_files r)
+asked (request.Prove r) = prove (node_files r)
+asked (request.Check r) = check (check_files r)
+asked (request.Storm r) = storm (storm_run r)
+asked (request.Ask r) = ask (node_files r)
+asked (request.Serve r have) = serve (node_files r) have.now
+asked (request.Take r rows) = take (node_files r) rows.now
 
 -- the least and the greatest number of members that are made
 abbrev pub least_members : ℕ
@@ -197,8 +217,8 @@ node_options more =
     needed (text_option (codes "members")) ∷ needed (text_option (codes "script")) ∷ needed (text_option (codes "own")) ∷ more
 
 -- what they were given
-abbrev pub node_files : List Row → NodeFiles
-node_files rows = record {
+abbrev pub node_given : List Row → NodeFiles
+node_given rows = record {
   members = text_in (codes "members") rows;
   script = text_in (codes "script") rows;
   own = text_in (codes "own") rows;
@@ -206,7 +226,7 @@ node_files rows = record {
 
 -- prove --members FILE --script FILE --own NAME
 abbrev pub prove_command : Command
-prove_command = record { name = codes "prove"; options = node_options []; reads = λ rows. prove (node_files rows) }
+prove_command = record { name = codes "prove"; options = node_options []; reads = λ rows. prove (node_given rows) }
 
 -- check --members FILE --proof FILE
 abbrev pub check_command : Command
@@ -233,14 +253,14 @@ storm_command = record {
 
 -- ask --members FILE --script FILE --own NAME
 abbrev pub ask_command : Command
-ask_command = record { name = codes "ask"; options = node_options []; reads = λ rows. ask (node_files rows) }
+ask_command = record { name = codes "ask"; options = node_options []; reads = λ rows. ask (node_given rows) }
 
 -- serve --members FILE --script FILE --own NAME --have FILE
 abbrev pub serve_command : Command
 serve_command = record {
   name = codes "serve";
   options = node_options (needed (text_option (codes "have")) ∷ []);
-  reads = λ rows. serve (node_files rows) (text_in (codes "have") rows);
+  reads = λ rows. serve (node_given rows) (text_in (codes "have") rows);
 }
 
 -- take --members FILE --script FILE --own NAME --rows FILE
@@ -248,7 +268,7 @@ abbrev pub take_command : Command
 take_command = record {
   name = codes "take";
   options = node_options (needed (text_option (codes "rows")) ∷ []);
-  reads = λ rows. take (node_files rows) (text_in (codes "rows") rows);
+  reads = λ rows. take (node_given rows) (text_in (codes "rows") rows);
 }
 
 -- the commands of the program

@@ -1,72 +1,98 @@
 ghost use Rattle.std.specs.Prelude.{◌≡◌, option_and_then, option_map, unwrap_or, codes};
 ghost use Rattle.clap.specs.Words.{found_of, rows_of, subcommand_rows_of};
-ghost use Rattle.hg_command.specs.Asked.{ask_command, asked, asked_in, check_command, keep_command, keeps_ranges, make_command, maybe_number_in, number_in, prove_command, room_in, run_command, serve_command, storm_command, take_command, text_in};
+ghost use Rattle.hg_command.specs.Asked.{asked, asked_in, check_command, keep_command, keeps_ranges, make_command, maybe_number_in, node_files, node_given, number_in, room_in, run_command, serve_command, storm_command, take_command, text_in};
 
 use clap::ArgMatches;
 
-/// What a command line asks for. The names are those of the words.
+/// The script of one file among the members of another, with so many workers.
+#[derive(Clone, Copy, Debug, PartialEq, Eq)]
+pub struct RunRequest<'a> {
+    /// The name of the member file.
+    pub members: &'a str,
+    /// The name of the script.
+    pub script: &'a str,
+    /// How many workers decide the fame of witnesses.
+    pub workers: u32,
+}
+
+/// So many lines among so many members, both made from the seed, with so many workers.
+#[derive(Clone, Copy, Debug, PartialEq, Eq)]
+pub struct MakeRequest {
+    pub members: u32,
+    pub lines: u32,
+    pub seed: u64,
+    pub workers: u32,
+}
+
+/// The events of a file, and the journal of the member's node to which they are put.
+#[derive(Clone, Copy, Debug, PartialEq, Eq)]
+pub struct KeepRequest<'a> {
+    /// The name of the member file.
+    pub members: &'a str,
+    /// The name of the file of the events that are put to the node.
+    pub events: &'a str,
+    /// The name of the member.
+    pub own: &'a str,
+    /// The name of the journal's file.
+    pub disk: &'a str,
+    /// The time of the event that the node makes, if it is to make one.
+    pub time: Option<u64>,
+}
+
+/// A member's node, and the script that is played before.
+#[derive(Clone, Copy, Debug, PartialEq, Eq)]
+pub struct NodeRequest<'a> {
+    /// The name of the member file.
+    pub members: &'a str,
+    /// The name of the script.
+    pub script: &'a str,
+    /// The name of the member.
+    pub own: &'a str,
+}
+
+/// A certificate, and the members to whom it is to show an order.
+#[derive(Clone, Copy, Debug, PartialEq, Eq)]
+pub struct CheckRequest<'a> {
+    /// The name of the member file.
+    pub members: &'a str,
+    /// The name of the certificate's file.
+    pub proof: &'a str,
+}
+
+/// A storm of the members of a file.
+#[derive(Clone, Copy, Debug, PartialEq, Eq)]
+pub struct StormRequest<'a> {
+    /// The name of the member file.
+    pub members: &'a str,
+    /// How many turns each node takes.
+    pub turns: u32,
+    /// What the draws begin with.
+    pub seed: u64,
+    /// For how many messages a mailbox has room.
+    pub room: u32,
+}
+
+/// What a command line asks for.
 #[derive(Clone, Copy, Debug, PartialEq, Eq)]
 pub enum Request<'a> {
-    /// To play the script of this name among the members of the file of this name.
-    Run {
-        members: &'a str,
-        script: &'a str,
-        workers: u32,
-    },
-    /// To play so many lines among so many members, both made from the seed.
-    Make {
-        members: u32,
-        lines: u32,
-        seed: u64,
-        workers: u32,
-    },
-    /// To keep the events of one file in a journal: that of the member of the name `own`, in the file of the name `disk`, with
-    /// the time that was given, if one was.
-    Keep {
-        members: &'a str,
-        events: &'a str,
-        own: &'a str,
-        disk: &'a str,
-        time: Option<u64>,
-    },
-    /// To play the script, and to prove the order of the node of the member of the name `own`.
-    Prove {
-        members: &'a str,
-        script: &'a str,
-        own: &'a str,
-    },
-    /// To check what the file of the name `proof` proves to the members.
-    Check {
-        members: &'a str,
-        proof: &'a str,
-    },
-    /// To let the members' nodes take so many turns each, in threads, with mailboxes of so much room.
-    Storm {
-        members: &'a str,
-        turns: u32,
-        seed: u64,
-        room: u32,
-    },
-    /// The message by which the node of the member of the name `own` asks, once the script was played.
-    Ask {
-        members: &'a str,
-        script: &'a str,
-        own: &'a str,
-    },
-    /// What that node answers to the message in the file of the name `have`.
-    Serve {
-        members: &'a str,
-        script: &'a str,
-        own: &'a str,
-        have: &'a str,
-    },
-    /// What comes of the message in the file of the name `rows` at that node.
-    Take {
-        members: &'a str,
-        script: &'a str,
-        own: &'a str,
-        rows: &'a str,
-    },
+    /// To play the script.
+    Run(RunRequest<'a>),
+    /// To play the lines that are made.
+    Make(MakeRequest),
+    /// To keep the events in the journal, with the time that was given, if one was.
+    Keep(KeepRequest<'a>),
+    /// To play the script, and to prove the order of the node.
+    Prove(NodeRequest<'a>),
+    /// To check what the certificate proves to the members.
+    Check(CheckRequest<'a>),
+    /// To let the members' nodes take their turns, in threads.
+    Storm(StormRequest<'a>),
+    /// The message by which the node asks, once the script was played.
+    Ask(NodeRequest<'a>),
+    /// What that node answers to the message in the file of this name.
+    Serve(NodeRequest<'a>, &'a str),
+    /// What comes of the message in the file of this name at that node.
+    Take(NodeRequest<'a>, &'a str),
 }
 
 impl<'a> Request<'a> {
@@ -75,16 +101,18 @@ impl<'a> Request<'a> {
         ensures { result ≡ keeps_ranges (asked self.entry) }
     {
         match self {
-            Request::Run { workers, .. } => workers <= 16,
-            Request::Make {
-                members,
-                lines,
-                workers,
-                ..
-            } => 2 <= members && members <= 128 && lines <= 1_000_000 && workers <= 16,
-            Request::Storm { turns, room, .. } => turns <= 10_000 && 1 <= room && room <= 65_536,
-            Request::Keep { .. } | Request::Prove { .. } | Request::Check { .. } => true,
-            Request::Ask { .. } | Request::Serve { .. } | Request::Take { .. } => true,
+            Request::Run(run) => run.workers <= 16,
+            Request::Make(make) => {
+                2 <= make.members
+                    && make.members <= 128
+                    && make.lines <= 1_000_000
+                    && make.workers <= 16
+            }
+            Request::Storm(storm) => {
+                storm.turns <= 10_000 && 1 <= storm.room && storm.room <= 65_536
+            }
+            Request::Keep(_) | Request::Prove(_) | Request::Check(_) => true,
+            Request::Ask(_) | Request::Serve(_, _) | Request::Take(_, _) => true,
         }
     }
 }
@@ -134,40 +162,41 @@ fn text_at<'a>(matches: &ArgMatches<'a>, option: &str) -> &'a str
 fn run_at<'a>(matches: &ArgMatches<'a>) -> Request<'a>
     ensures { asked result ≡ run_command.reads (rows_of (found_of matches.now)) }
 {
-    Request::Run {
+    Request::Run(RunRequest {
         members: text_at(matches, "members"),
         script: text_at(matches, "script"),
         workers: number_at(matches, "workers"),
-    }
+    })
 }
 
 fn make_at<'a>(matches: &ArgMatches<'a>) -> Request<'a>
     ensures { asked result ≡ make_command.reads (rows_of (found_of matches.now)) }
 {
-    Request::Make {
+    Request::Make(MakeRequest {
         members: number_at(matches, "members"),
         lines: number_at(matches, "lines"),
         seed: seed_at(matches, "seed"),
         workers: number_at(matches, "workers"),
-    }
+    })
 }
 
 fn keep_at<'a>(matches: &ArgMatches<'a>) -> Request<'a>
     ensures { asked result ≡ keep_command.reads (rows_of (found_of matches.now)) }
 {
-    Request::Keep {
+    Request::Keep(KeepRequest {
         members: text_at(matches, "members"),
         events: text_at(matches, "events"),
         own: text_at(matches, "own"),
         disk: text_at(matches, "disk"),
         time: wide_at(matches, "time"),
-    }
+    })
 }
 
-fn prove_at<'a>(matches: &ArgMatches<'a>) -> Request<'a>
-    ensures { asked result ≡ prove_command.reads (rows_of (found_of matches.now)) }
+/// What was given of a member's node and the script that is played before.
+fn node_at<'a>(matches: &ArgMatches<'a>) -> NodeRequest<'a>
+    ensures { node_files result ≡ node_given (rows_of (found_of matches.now)) }
 {
-    Request::Prove {
+    NodeRequest {
         members: text_at(matches, "members"),
         script: text_at(matches, "script"),
         own: text_at(matches, "own"),
@@ -177,53 +206,33 @@ fn prove_at<'a>(matches: &ArgMatches<'a>) -> Request<'a>
 fn check_at<'a>(matches: &ArgMatches<'a>) -> Request<'a>
     ensures { asked result ≡ check_command.reads (rows_of (found_of matches.now)) }
 {
-    Request::Check {
+    Request::Check(CheckRequest {
         members: text_at(matches, "members"),
         proof: text_at(matches, "proof"),
-    }
+    })
 }
 
 fn storm_at<'a>(matches: &ArgMatches<'a>) -> Request<'a>
     ensures { asked result ≡ storm_command.reads (rows_of (found_of matches.now)) }
 {
-    Request::Storm {
+    Request::Storm(StormRequest {
         members: text_at(matches, "members"),
         turns: number_at(matches, "turns"),
         seed: seed_at(matches, "seed"),
         room: room_at(matches, "room"),
-    }
-}
-
-fn ask_at<'a>(matches: &ArgMatches<'a>) -> Request<'a>
-    ensures { asked result ≡ ask_command.reads (rows_of (found_of matches.now)) }
-{
-    Request::Ask {
-        members: text_at(matches, "members"),
-        script: text_at(matches, "script"),
-        own: text_at(matches, "own"),
-    }
+    })
 }
 
 fn serve_at<'a>(matches: &ArgMatches<'a>) -> Request<'a>
     ensures { asked result ≡ serve_command.reads (rows_of (found_of matches.now)) }
 {
-    Request::Serve {
-        members: text_at(matches, "members"),
-        script: text_at(matches, "script"),
-        own: text_at(matches, "own"),
-        have: text_at(matches, "have"),
-    }
+    Request::Serve(node_at(matches), text_at(matches, "have"))
 }
 
 fn take_at<'a>(matches: &ArgMatches<'a>) -> Request<'a>
     ensures { asked result ≡ take_command.reads (rows_of (found_of matches.now)) }
 {
-    Request::Take {
-        members: text_at(matches, "members"),
-        script: text_at(matches, "script"),
-        own: text_at(matches, "own"),
-        rows: text_at(matches, "rows"),
-    }
+    Request::Take(node_at(matches), text_at(matches, "rows"))
 }
 
 /// What the command that was met asks for.
@@ -238,13 +247,13 @@ pub(crate) fn request_at<'a>(matches: &ArgMatches<'a>) -> Option<Request<'a>>
     } else if name == "keep" {
         Some(keep_at(options))
     } else if name == "prove" {
-        Some(prove_at(options))
+        Some(Request::Prove(node_at(options)))
     } else if name == "check" {
         Some(check_at(options))
     } else if name == "storm" {
         Some(storm_at(options))
     } else if name == "ask" {
-        Some(ask_at(options))
+        Some(Request::Ask(node_at(options)))
     } else if name == "serve" {
         Some(serve_at(options))
     } else if name == "take" {

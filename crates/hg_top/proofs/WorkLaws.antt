@@ -10,7 +10,7 @@ use Rattle.hg_io.specs.declared.sink.Sink as sink
 use Rattle.hg_top.specs.declared.status.File.{File}
 use Rattle.hg_top.specs.declared.status.Status.{Status}
 use Rattle.hg_top.specs.declared.status.Status.TheVariants.{Done, ReadFault, Usage, Members, Own, Script, Events, WriteFault, Memory, Disk, Journal, Proof, Wire}
-use Rattle.hg_top.specs.Course.{Course, DiskCourse, Has, HasMore, HasWithin, IsIdle, IsQuiet, SinkCourse, StartsOne, Tells, course, disk_course, reading, sink_course}
+use Rattle.hg_top.specs.Course.{Course, DiskCourse, Has, HasMore, HasWithin, IsIdle, IsQuiet, SinkCourse, StartsOne, Tells, course, disk_course, no_disk, reading, sink_course}
 use Rattle.hg_top.specs.Ends.{Comes, Completes, Ends, IsTaken, StopsAt, StopsIn}
 use Rattle.hg_top.specs.Work.{KeepWork, Work, limit_of, nothing_more, takes, unless_faulty}
 use Rattle.hg_top.specs.Work.Work.{Writes, Stops, Reads, Keeps}
@@ -33,8 +33,8 @@ use Rattle.hg_world.specs.World.{Secrets}
 use Rattle.hg_top.specs.declared.exchanging.Exchange.{Exchange}
 use Rattle.hg_top.specs.declared.exchanging.Exchange.TheVariants.{Ask, Serve, Take}
 use Rattle.hg_top.specs.Commands.{answer_work, bad_members, bad_message, bad_proof, bad_script, certificate_work, check_work, exchange_work, heads_work, if_own, lines_for, own_in, play_work, played_work, prove_work, report_work, run_work, script_work, shown_work, storm_work, work_of}
-use Rattle.hg_top.proofs.KeepLaws.{completes_keep, spares_still}
-use Rattle.hg_command.specs.Asked.{Asked, NodeFiles, StormRun}
+use Rattle.hg_top.proofs.KeepLaws.{completes_keep, idle_disk, spares_still}
+use Rattle.hg_command.specs.Asked.{Asked, CheckFiles, NodeFiles, RunFiles, StormRun}
 
 -- ---- what holds of each work
 
@@ -208,9 +208,9 @@ pub diskless_unless : {A F : Type 0} (stop : F → Status) (read : Result A F) (
 diskless_unless stop (Ok x) next diskless = diskless x
 diskless_unless stop (Err fault) next diskless = tt
 
-pub diskless_run : (members script : List ℕ) (workers : ℕ) → Diskless (run_work members script workers)
-diskless_run members script workers = λ bytes. diskless_unless bad_members (members_of bytes) (script_work script workers)
-    (λ list bytes. diskless_unless bad_script (lines_for list workers bytes) (report_work list) (λ lines. tt))
+pub diskless_run : (r : RunFiles) → Diskless (run_work r)
+diskless_run r = λ bytes. diskless_unless bad_members (members_of bytes) (script_work r.script r.workers)
+    (λ list bytes. diskless_unless bad_script (lines_for list r.workers bytes) (report_work list) (λ lines. tt))
 
 diskless_own : (own : Option ℕ) (next : ℕ → Work) → ((m : ℕ) → Diskless (next m)) → Diskless (if_own own next)
 diskless_own None next diskless = tt
@@ -221,8 +221,8 @@ diskless_prove f = λ bytes. diskless_unless bad_members (members_of bytes) (λ 
     (λ members. diskless_own (own_in members f.own) (certificate_work f.script members)
     (λ own bytes. diskless_unless bad_script (lines_for members 0 bytes) (λ lines. Writes (IsProofOf members lines own)) (λ lines. tt)))
 
-pub diskless_check : (members proof : List ℕ) → Diskless (check_work members proof)
-diskless_check members proof = λ bytes. diskless_unless bad_members (members_of bytes) (λ (list : MemberList). shown_work proof list (answer_work list))
+pub diskless_check : (f : CheckFiles) → Diskless (check_work f)
+diskless_check f = λ bytes. diskless_unless bad_members (members_of bytes) (λ (list : MemberList). shown_work f.proof list (answer_work list))
     (λ list bytes. diskless_unless bad_proof (judged_by list bytes) (answer_work list) (λ shown. tt))
 
 pub diskless_storm : (r : StormRun) → Diskless (storm_work r)
@@ -306,3 +306,11 @@ pub ends_at : {S T D : Type 0} (F : shelf.Ghosts S) (K : sink.Ghosts T) (W : dis
     Ends (work_of asked) (course F K s t out written (disk_course W disk kept)) status → Ends (work_of words) (course F K s last out done (disk_course W disk left)) same
 ends_at F K W s t last out written done disk kept left asked words status same is shelf_is out_is disk_is status_is ends =
     rw (← is, shelf_is, out_is, disk_is, status_is) ends
+
+-- .. of a command without a disk
+pub ends_without : {S T D : Type 0} (F : shelf.Ghosts S) (K : sink.Ghosts T) (W : disk.Ghosts D) (s t last : S) (out written done : T) (disk left : D) (asked words : Option Asked) (status same : Status) →
+    Diskless (work_of asked) → asked ≡ words → last ≡ t → done ≡ written → left ≡ disk → same ≡ status →
+    Ends (work_of asked) (course F K s t out written no_disk) status → Ends (work_of words) (course F K s last out done (disk_course W disk left)) same
+ends_without F K W s t last out written done disk left asked words status same diskless is shelf_is out_is disk_is status_is ends =
+    ends_at F K W s t last out written done disk disk left asked words status same is shelf_is out_is disk_is status_is
+    (with_disk (work_of asked) (course F K s t out written no_disk) (disk_course W disk disk) (F.starts s) status diskless (idle_disk W disk) ends)

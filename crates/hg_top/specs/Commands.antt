@@ -11,7 +11,7 @@ use Rattle.hg_script.specs.declared.fault.ScriptFault.{ScriptFault}
 use Rattle.hg_script.specs.declared.line.Line.{Line}
 use Rattle.hg_script.specs.Script.{lines_of}
 use Rattle.hg_made.specs.Made.{generate}
-use Rattle.hg_command.specs.Asked.{Asked, KeepFiles, MadeRun, NodeFiles, StormRun, ask, check, keep, make, prove, request_of, run, serve, storm, take, texts}
+use Rattle.hg_command.specs.Asked.{Asked, CheckFiles, KeepFiles, MadeRun, NodeFiles, RunFiles, StormRun, ask, check, keep, make, prove, request_of, run, serve, storm, take, texts}
 use Rattle.hg_certify.specs.Proving.{IsProofOf}
 use Rattle.hg_certify.specs.Showing.{IsSafeBeside, ShowsTo, judged_by}
 use Rattle.hg_certify.specs.Text.{shown_text}
@@ -34,9 +34,6 @@ use Rattle.hg_wire.specs.declared.message.Want.TheVariants.{Have, Rows}
 use Rattle.hg_world.specs.World.{Secrets, WorldView}
 use Rattle.hg_top.specs.declared.exchanging.Exchange.{Exchange}
 use Rattle.hg_top.specs.declared.exchanging.Exchange.TheVariants.{Ask, Serve, Take}
-use Rattle.hg_top.specs.declared.exchanging.NodeRequest.{NodeRequest}
-use Rattle.hg_top.specs.declared.keeping.KeepRequest.{KeepRequest}
-use Rattle.hg_top.specs.declared.storming.StormRequest.{StormRequest}
 use Rattle.hg_top.specs.declared.status.File.TheVariants as file
 use Rattle.hg_top.specs.declared.status.Refusal.TheVariants.{Fault}
 use Rattle.hg_top.specs.declared.status.Status.{Status}
@@ -105,8 +102,8 @@ abbrev pub script_work : List ℕ → ℕ → MemberList → Work
 script_work name workers members = lines_work name members workers (report_work members)
 
 -- reads the member file, then the script
-abbrev pub run_work : List ℕ → List ℕ → ℕ → Work
-run_work members script workers = members_work members (script_work script workers)
+abbrev pub run_work : RunFiles → Work
+run_work r = members_work r.members (script_work r.script r.workers)
 
 -- ---- make
 
@@ -149,10 +146,6 @@ own_work k members (Some own) = events_work k.events (node_work k members own)
 abbrev pub keep_work : KeepFiles → Work
 keep_work k = members_work k.members (λ members. own_work k members (own_in members k.own))
 
--- what `keep` was asked for
-abbrev pub files_of : KeepRequest → KeepFiles
-files_of k = record { members = k.members.now; events = k.events.now; own = k.own.now; disk = k.disk.now; time = k.time }
-
 -- ---- prove
 
 -- where there is such a member
@@ -182,8 +175,8 @@ abbrev pub answer_work : MemberList → Certificate → Work
 answer_work members shown = Writes (IsAnswerOf members shown)
 
 -- reads the member file, then the proof
-abbrev pub check_work : List ℕ → List ℕ → Work
-check_work members proof = members_work members (λ list. shown_work proof list (answer_work list))
+abbrev pub check_work : CheckFiles → Work
+check_work c = members_work c.members (λ list. shown_work c.proof list (answer_work list))
 
 -- ---- storm
 
@@ -213,10 +206,6 @@ heads_work r members = Writes (IsStormText r members)
 abbrev pub storm_work : StormRun → Work
 storm_work r = members_work r.members (heads_work r)
 
--- what was asked of a storm
-abbrev pub storm_of : StormRequest → StormRun
-storm_of r = record { members = r.members.now; turns = r.turns; seed = r.seed; room = r.room }
-
 -- ---- ask, serve and take
 
 -- what the node v of one of these members asks, after a script
@@ -239,10 +228,6 @@ play_work script next members own = lines_work script members 0 (λ lines. next 
 abbrev pub played_work : NodeFiles → (MemberList → NodeView Secrets → Work) → Work
 played_work f next = members_work f.members (λ members. if_own (own_in members f.own) (play_work f.script next members))
 
--- what was asked for
-abbrev pub node_files : NodeRequest → NodeFiles
-node_files f = record { members = f.members.now; script = f.script.now; own = f.own.now }
-
 abbrev pub exchange_work : Exchange → MemberList → NodeView Secrets → Work
 exchange_work Ask = ask_work
 exchange_work (Serve have) = serve_work have.now
@@ -253,11 +238,11 @@ exchange_work (Take rows) = take_work rows.now
 -- the work that was asked for; words that are not accepted have their status
 abbrev pub work_of : Option Asked → Work
 work_of None = Stops Usage
-work_of (Some (run r)) = run_work r.members r.script r.workers
+work_of (Some (run r)) = run_work r
 work_of (Some (make m)) = make_work m
 work_of (Some (keep k)) = keep_work k
 work_of (Some (prove f)) = prove_work f
-work_of (Some (check c)) = check_work c.members c.proof
+work_of (Some (check c)) = check_work c
 work_of (Some (storm r)) = storm_work r
 work_of (Some (ask f)) = played_work f ask_work
 work_of (Some (serve f have)) = played_work f (serve_work have)
@@ -272,6 +257,6 @@ KeepsNothing _ = ⊤
 abbrev pub asks : List (String Global) → Option Asked
 asks words = request_of (texts words)
 
--- a run of so many members and lines, made from the seed, with so many workers
-abbrev pub made_run : ℕ → ℕ → ℕ → ℕ → MadeRun
-made_run members lines seed workers = record { members = members; lines = lines; seed = seed; workers = workers }
+-- the work that these words ask for
+abbrev pub work_for : List (String Global) → Work
+work_for words = work_of (asks words)

@@ -1,13 +1,15 @@
 ghost use Rattle.std.specs.Prelude.{◌<◌, All, length};
 ghost use Rattle.hg_exchange.specs.Exchanges.{IsAsking, played_node};
 ghost use Rattle.hg_script.specs.Lawful.{IsLine};
-ghost use Rattle.hg_top.specs.Commands.{exchange_work, node_files, play_work, played_work, serve_work, take_work};
+ghost use Rattle.hg_command.specs.Asked.{node_files};
+ghost use Rattle.hg_top.specs.Commands.{exchange_work, play_work, played_work, serve_work, take_work};
 ghost use Rattle.hg_top.specs.Course.{OnlyReads, course, no_disk};
 ghost use Rattle.hg_top.specs.Ends.{Ends};
 ghost use Rattle.hg_top.specs.Writing.{WroteOn};
 
 use crate::reading::{lines_from, members_from, message_from, own_in};
 use crate::status::{Status, delivered, status_of};
+use hg_command::NodeRequest;
 use hg_exchange::{ask, serve, take, write_took};
 use hg_io::{Shelf, Sink};
 use hg_life::Members;
@@ -15,17 +17,6 @@ use hg_model::{Member, Memory};
 use hg_script::Line;
 use hg_wire::Want;
 use std::alloc::Global;
-
-/// Whose node gossips, and the script that is played before.
-#[derive(Clone, Copy)]
-pub(crate) struct NodeRequest<'a> {
-    /// The name of the member file.
-    pub(crate) members: &'a str,
-    /// The name of the script.
-    pub(crate) script: &'a str,
-    /// The name of the member.
-    pub(crate) own: &'a str,
-}
 
 /// What the node does.
 #[derive(Clone, Copy)]

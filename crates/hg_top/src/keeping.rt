@@ -1,32 +1,19 @@
 ghost use Rattle.std.specs.Prelude.{◌<◌, Some, length};
-ghost use Rattle.hg_top.specs.Commands.{files_of, keep_work, own_work};
+ghost use Rattle.hg_command.specs.Asked.{keep_files};
+ghost use Rattle.hg_top.specs.Commands.{keep_work, own_work};
 ghost use Rattle.hg_top.specs.Course.{OnlyReads, course, disk_course};
 ghost use Rattle.hg_top.specs.Ends.{Ends};
 ghost use Rattle.hg_top.specs.Keeps.{KeptOn, work_on};
 
 use crate::reading::{events_from, members_from, own_in};
 use crate::status::{Status, open_status, status_of};
+use hg_command::KeepRequest;
 use hg_io::{Disk, Shelf, Sink};
 use hg_keep::{Task, write_kept};
 use hg_life::Members;
 use hg_model::{Member, Memory};
 use hg_sign::MacTable;
 use std::alloc::Global;
-
-/// What is asked of a member's node.
-#[derive(Clone, Copy)]
-pub(crate) struct KeepRequest<'a> {
-    /// The name of the member file.
-    pub(crate) members: &'a str,
-    /// The name of the file of the events that are put to the node.
-    pub(crate) events: &'a str,
-    /// The name of the member.
-    pub(crate) own: &'a str,
-    /// The name of the journal's file.
-    pub(crate) disk: &'a str,
-    /// The time of the event that the node makes, if it is to make one.
-    pub(crate) time: Option<u64>,
-}
 
 /// What a task on the node of one of these members comes to.
 fn keep_node<D: Disk, K: Sink>(
@@ -60,7 +47,7 @@ fn keep_events<F: Shelf, D: Disk, K: Sink>(
     out: &mut K,
 ) -> Status
     requires { own < length members.now.entries }
-    ensures ends { Ends (own_work (files_of asked.now) members.now (Some own))
+    ensures ends { Ends (own_work (keep_files asked.now) members.now (Some own))
         (course F.Shelf K.Sink shelf.old shelf.new out.old out.new (disk_course D.Disk disk.old disk.new)) result }
     ensures same { OnlyReads F.Shelf shelf.old shelf.new }
 {
@@ -85,7 +72,7 @@ pub(crate) fn keep<F: Shelf, D: Disk, K: Sink>(
     disk: &mut D,
     out: &mut K,
 ) -> Status
-    ensures ends { Ends (keep_work (files_of asked.now))
+    ensures ends { Ends (keep_work (keep_files asked.now))
         (course F.Shelf K.Sink shelf.old shelf.new out.old out.new (disk_course D.Disk disk.old disk.new)) result }
     ensures same { OnlyReads F.Shelf shelf.old shelf.new }
 {

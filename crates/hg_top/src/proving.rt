@@ -1,13 +1,14 @@
 ghost use Rattle.std.specs.Prelude.{◌<◌, length};
-ghost use Rattle.hg_top.specs.Commands.{certificate_work, check_work, node_files, prove_work};
+ghost use Rattle.hg_command.specs.Asked.{check_files, node_files};
+ghost use Rattle.hg_top.specs.Commands.{certificate_work, check_work, prove_work};
 ghost use Rattle.hg_top.specs.Course.{OnlyReads, course, no_disk};
 ghost use Rattle.hg_top.specs.Ends.{Ends};
 
-use crate::exchanging::NodeRequest;
 use crate::printing::print_text;
 use crate::reading::{lines_from, members_from, own_in, proof_from};
 use crate::status::{Status, status_of};
 use hg_certify::{prove_order, write_shown};
+use hg_command::{CheckRequest, NodeRequest};
 use hg_io::{Shelf, Sink};
 use hg_life::Members;
 use hg_model::{Member, Memory};
@@ -58,23 +59,22 @@ pub(crate) fn prove<F: Shelf, K: Sink>(
     }
 }
 
-/// What the proof of this name comes to, for the members of the file of this name.
+/// What the proof comes to for the members.
 pub(crate) fn check<F: Shelf, K: Sink>(
     alloc: Global,
-    members: &str,
-    proof: &str,
+    asked: &CheckRequest<'_>,
     shelf: &mut F,
     out: &mut K,
 ) -> Status
-    ensures ends { Ends (check_work members.now proof.now)
+    ensures ends { Ends (check_work (check_files asked.now))
         (course F.Shelf K.Sink shelf.old shelf.new out.old out.new no_disk) result }
     ensures same { OnlyReads F.Shelf shelf.old shelf.new }
 {
-    let list = match members_from(alloc, shelf, members) {
-        Ok(list) => list,
+    let members = match members_from(alloc, shelf, asked.members) {
+        Ok(members) => members,
         Err(status) => return status,
     };
-    match proof_from(alloc, shelf, proof, &list) {
+    match proof_from(alloc, shelf, asked.proof, &members) {
         Ok(shown) => status_of(write_shown(&shown, out)),
         Err(status) => status,
     }

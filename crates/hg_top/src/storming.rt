@@ -1,10 +1,12 @@
 ghost use Rattle.std.specs.Prelude.{◌≤◌, IfOk};
-ghost use Rattle.hg_top.specs.Commands.{IsStormOutcome, storm_of, storm_work};
+ghost use Rattle.hg_command.specs.Asked.{storm_run};
+ghost use Rattle.hg_top.specs.Commands.{IsStormOutcome, storm_work};
 ghost use Rattle.hg_top.specs.Course.{OnlyReads, course, no_disk};
 ghost use Rattle.hg_top.specs.Ends.{Ends};
 
 use crate::reading::members_from;
 use crate::status::{Status, status_of};
+use hg_command::StormRequest;
 use hg_io::{Gate, Shelf, Sink};
 use hg_life::Members;
 use hg_model::Memory;
@@ -16,19 +18,6 @@ use std::alloc::Global;
 use std::sync::Wait;
 use std::thread::Threads;
 
-/// What is asked of a storm.
-#[derive(Clone, Copy)]
-pub(crate) struct StormRequest<'a> {
-    /// The name of the member file.
-    pub(crate) members: &'a str,
-    /// How many turns each node takes.
-    pub(crate) turns: u32,
-    /// What the draws begin with.
-    pub(crate) seed: u64,
-    /// For how many messages a mailbox has room.
-    pub(crate) room: u32,
-}
-
 /// The blocks of the nodes after a storm.
 fn storm_outcome<R: Threads + Wait + Sync, G: Gate + Sync>(
     rt: &R,
@@ -38,7 +27,7 @@ fn storm_outcome<R: Threads + Wait + Sync, G: Gate + Sync>(
     gate: &G,
 ) -> Result<Outcome, Memory>
     requires { 1 ≤ asked.now.room }
-    ensures { IfOk result (IsStormOutcome (storm_of asked.now) members.now) }
+    ensures { IfOk result (IsStormOutcome (storm_run asked.now) members.now) }
 {
     let voters = Voters::new(gate);
     let storm = hg_storm::storm(
@@ -65,7 +54,7 @@ pub(crate) fn storm<R: Threads + Wait + Sync, F: Shelf, K: Sink, G: Gate + Sync>
     gate: &G,
 ) -> Status
     requires { 1 ≤ asked.now.room }
-    ensures ends { Ends (storm_work (storm_of asked.now))
+    ensures ends { Ends (storm_work (storm_run asked.now))
         (course F.Shelf K.Sink shelf.old shelf.new out.old out.new no_disk) result }
     ensures same { OnlyReads F.Shelf shelf.old shelf.new }
 {

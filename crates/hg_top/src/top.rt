@@ -1,18 +1,19 @@
 ghost use Rattle.std.specs.Prelude.{◌≡◌, ◌≤◌, ℕ, false};
-ghost use Rattle.hg_top.specs.Commands.{IsSummaryOf, KeepsNothing, asks, made_run, run_work, script_work, work_of};
+ghost use Rattle.hg_command.specs.Asked.{made_run, run_files};
+ghost use Rattle.hg_top.specs.Commands.{IsSummaryOf, KeepsNothing, asks, run_work, script_work, work_for};
 ghost use Rattle.hg_top.specs.Course.{OnlyReads, course, disk_course, no_disk};
 ghost use Rattle.hg_top.specs.Ends.{Completes, Ends, ReadsNoFile};
 ghost use Rattle.hg_top.specs.Printing.{IsPrintedOn, status_line};
 ghost use Rattle.hg_top.specs.Writing.{WroteOn, may_write};
 
-use crate::exchanging::{Exchange, NodeRequest, play_node};
-use crate::keeping::{KeepRequest, keep};
+use crate::exchanging::{Exchange, play_node};
+use crate::keeping::keep;
 use crate::printing::report_status;
 use crate::proving::{check, prove};
 use crate::reading::{lines_from, members_from};
 use crate::status::{Status, status_of};
-use crate::storming::{StormRequest, storm};
-use hg_command::{Request, read_words};
+use crate::storming::storm;
+use hg_command::{MakeRequest, Request, RunRequest, read_words};
 use hg_io::{Disk, Gate, Shelf, Sink};
 use hg_life::Members;
 use hg_made::generate;
@@ -52,27 +53,34 @@ fn run_script<R: Threads + Wait + Sync, F: Shelf, K: Sink, G: Gate + Sync>(
     }
 }
 
-/// What the run of a script comes to, with the names of the two files and so many workers.
+/// What the run of a script comes to.
 fn run<R: Threads + Wait + Sync, F: Shelf, K: Sink, G: Gate + Sync>(
     rt: &R,
     alloc: Global,
-    members: &str,
-    script: &str,
-    workers: u32,
+    asked: &RunRequest<'_>,
     shelf: &mut F,
     out: &mut K,
     gate: &G,
 ) -> Status
-    requires { workers ≤ 16 }
-    ensures ends { Ends (run_work members.now script.now workers)
+    requires { asked.now.workers ≤ 16 }
+    ensures ends { Ends (run_work (run_files asked.now))
         (course F.Shelf K.Sink shelf.old shelf.new out.old out.new no_disk) result }
     ensures same { OnlyReads F.Shelf shelf.old shelf.new }
 {
-    let list = match members_from(alloc, shelf, members) {
-        Ok(list) => list,
+    let members = match members_from(alloc, shelf, asked.members) {
+        Ok(members) => members,
         Err(status) => return status,
     };
-    run_script(rt, alloc, &list, script, workers, shelf, out, gate)
+    run_script(
+        rt,
+        alloc,
+        &members,
+        asked.script,
+        asked.workers,
+        shelf,
+        out,
+        gate,
+    )
 }
 
 /// What the run of made members and lines comes to. The nodes are let be in the end, and not freed one by one: the process,
@@ -80,18 +88,21 @@ fn run<R: Threads + Wait + Sync, F: Shelf, K: Sink, G: Gate + Sync>(
 fn make<R: Threads + Wait + Sync, K: Sink, G: Gate + Sync>(
     rt: &R,
     alloc: Global,
-    members: u32,
-    lines: u32,
-    seed: u64,
-    workers: u32,
+    asked: &MakeRequest,
     out: &mut K,
     gate: &G,
 ) -> Status
-    requires some { 2 ≤ members }
-    requires few { members ≤ 128 }
-    requires workers { workers ≤ 16 }
-    ensures { WroteOn K.Sink out.old out.new (IsSummaryOf (made_run members lines seed workers)) result }
+    requires some { 2 ≤ asked.now.members }
+    requires few { asked.now.members ≤ 128 }
+    requires workers { asked.now.workers ≤ 16 }
+    ensures { WroteOn K.Sink out.old out.new (IsSummaryOf (made_run asked.now)) result }
 {
+    let MakeRequest {
+        members,
+        lines,
+        seed,
+        workers,
+    } = *asked;
     let (list, mut lines) = match generate(alloc, seed, members, lines) {
         Ok(made) => made,
         Err(Memory) => return Status::Memory,
@@ -127,140 +138,29 @@ pub fn hashgraph<R: Threads + Wait + Sync, F: Shelf, D: Disk, K: Sink, E: Sink, 
     // How the work that the words ask for ended: with its text on `out`, or for which cause, with which files started,
     // and what became of the disk. No two nodes' orders part ways in the run that is written, where the dishonest
     // members have less than a third of the stake and names do not collide.
-    ensures ends { Ends (work_of (asks words.now))
+    ensures ends { Ends (work_for words.now)
         (course F.Shelf K.Sink shelf.old shelf.new out.old out.new (disk_course D.Disk disk.old disk.new)) result }
     // That it must end with its text, or with the status of what is refused, if nothing fails and memory does not run out.
-    ensures complete { Completes (work_of (asks words.now))
+    ensures complete { Completes (work_for words.now)
         (course F.Shelf K.Sink shelf.old shelf.new out.old out.new (disk_course D.Disk disk.old disk.new)) result }
     ensures unwritten { may_write result ≡ false → out.new ≡ out.old }
-    ensures unread { ReadsNoFile (work_of (asks words.now)) → shelf.new ≡ shelf.old }
+    ensures unread { ReadsNoFile (work_for words.now) → shelf.new ≡ shelf.old }
     ensures unkept { KeepsNothing (asks words.now) → disk.new ≡ disk.old }
     ensures matches { IsPrintedOn E.Sink err.old err.new (status_line result) }
     ensures same { OnlyReads F.Shelf shelf.old shelf.new }
 {
     let status = match read_words(alloc, words) {
-        Ok(
-            Some(
-                Request::Run {
-                    members,
-                    script,
-                    workers,
-                },
-            ),
-        ) => run(rt, alloc, members, script, workers, shelf, out, gate),
-        Ok(
-            Some(
-                Request::Make {
-                    members,
-                    lines,
-                    seed,
-                    workers,
-                },
-            ),
-        ) => make(rt, alloc, members, lines, seed, workers, out, gate),
-        Ok(
-            Some(
-                Request::Keep {
-                    members,
-                    events,
-                    own,
-                    disk: journal,
-                    time,
-                },
-            ),
-        ) => {
-            let asked = KeepRequest {
-                members,
-                events,
-                own,
-                disk: journal,
-                time,
-            };
-            keep(alloc, &asked, shelf, disk, out)
-        }
-        Ok(
-            Some(
-                Request::Prove {
-                    members,
-                    script,
-                    own,
-                },
-            ),
-        ) => {
-            let asked = NodeRequest {
-                members,
-                script,
-                own,
-            };
-            prove(alloc, &asked, shelf, out)
-        }
-        Ok(Some(Request::Check { members, proof })) => check(alloc, members, proof, shelf, out),
-        Ok(
-            Some(
-                Request::Storm {
-                    members,
-                    turns,
-                    seed,
-                    room,
-                },
-            ),
-        ) => {
-            let asked = StormRequest {
-                members,
-                turns,
-                seed,
-                room,
-            };
-            storm(rt, alloc, &asked, shelf, out, gate)
-        }
-        Ok(
-            Some(
-                Request::Ask {
-                    members,
-                    script,
-                    own,
-                },
-            ),
-        ) => {
-            let asked = NodeRequest {
-                members,
-                script,
-                own,
-            };
-            play_node(alloc, &asked, Exchange::Ask, shelf, out)
-        }
-        Ok(
-            Some(
-                Request::Serve {
-                    members,
-                    script,
-                    own,
-                    have,
-                },
-            ),
-        ) => {
-            let asked = NodeRequest {
-                members,
-                script,
-                own,
-            };
+        Ok(Some(Request::Run(asked))) => run(rt, alloc, &asked, shelf, out, gate),
+        Ok(Some(Request::Make(asked))) => make(rt, alloc, &asked, out, gate),
+        Ok(Some(Request::Keep(asked))) => keep(alloc, &asked, shelf, disk, out),
+        Ok(Some(Request::Prove(asked))) => prove(alloc, &asked, shelf, out),
+        Ok(Some(Request::Check(asked))) => check(alloc, &asked, shelf, out),
+        Ok(Some(Request::Storm(asked))) => storm(rt, alloc, &asked, shelf, out, gate),
+        Ok(Some(Request::Ask(asked))) => play_node(alloc, &asked, Exchange::Ask, shelf, out),
+        Ok(Some(Request::Serve(asked, have))) => {
             play_node(alloc, &asked, Exchange::Serve(have), shelf, out)
         }
-        Ok(
-            Some(
-                Request::Take {
-                    members,
-                    script,
-                    own,
-                    rows,
-                },
-            ),
-        ) => {
-            let asked = NodeRequest {
-                members,
-                script,
-                own,
-            };
+        Ok(Some(Request::Take(asked, rows))) => {
             play_node(alloc, &asked, Exchange::Take(rows), shelf, out)
         }
         Ok(None) => Status::Usage,

@@ -1,7 +1,8 @@
 use Rattle.std.proofs.Common.{List, ℕ, refl, subst}
 use Rattle.hg_keep.specs.Events.{events_of}
 use Rattle.hg_top.specs.declared.status.File.TheVariants as file
-use Rattle.hg_top.specs.Commands.{bad_events, files_of, node_work}
+use Rattle.hg_command.specs.Asked.{keep_files}
+use Rattle.hg_top.specs.Commands.{bad_events, node_work}
 use Rattle.hg_top.specs.Course.{disk_course}
 use Rattle.hg_top.specs.Keeps.{KeptOn}
 use Rattle.hg_top.specs.Work.{KeepWork}
@@ -14,11 +15,11 @@ returns-in-Err-clause-ends g c =
     let W = g.D.Disk in
     let disk = c.args.disk.now in
     takes_none g.F.Shelf g.K.Sink c.args.shelf.now c.events_from.new.shelf c.args.out.now (disk_course W disk disk) file.Events bad_events events_of c.args.asked.now.events.now
-    (node_work (files_of c.args.asked.now) c.args.members.now c.args.own) c.in-Err.status (idle_disk W disk) c.in-Err.ensures.err
+    (node_work (keep_files c.args.asked.now) c.args.members.now c.args.own) c.in-Err.status (idle_disk W disk) c.in-Err.ensures.err
 
 pub returns-clause-ends : goal.returns-clause-ends
 returns-clause-ends g c =
-    let k = files_of c.args.asked.now in
+    let k = keep_files c.args.asked.now in
     let d = disk_course g.D.Disk c.args.disk.now c.keep_node.new.disk in
     let members = c.args.members.now in
     let own = c.args.own in

@@ -2,7 +2,8 @@ use Rattle.std.proofs.Common.{◌≡◌, ◌∙◌, ℕ, Option, Some, subst, sy
 use Rattle.hg_members.specs.MemberFile.{members_of}
 use Rattle.hg_life.specs.Members.{MemberList}
 use Rattle.hg_top.specs.declared.status.File.TheVariants as file
-use Rattle.hg_top.specs.Commands.{bad_members, certificate_work, if_own, node_files, own_in}
+use Rattle.hg_command.specs.Asked.{node_files}
+use Rattle.hg_top.specs.Commands.{bad_members, certificate_work, if_own, own_in}
 use Rattle.hg_top.specs.Course.{course, no_disk}
 use Rattle.hg_top.specs.Ends.{Ends}
 use Rattle.hg_top.proofs.KeepLaws.{idle_none}
