@@ -1,5 +1,5 @@
 -- The world of a storm: its nodes are those of the members, and settled, so that each shows its graph's own fame
-use Rattle.std.proofs.Common.{◌≡◌, inl, inr, ℕ, zero, suc, ◌+◌, ◌<◌, Bool, true, false, cond, List, [], ◌∷◌, ◌++◌, length, map, get_or, replicate, slice_set, sym, refl, ap, ap₂, ◌∙◌, subst, arith}
+use Rattle.std.proofs.Common.{◌≡◌, inl, inr, ℕ, zero, suc, ◌<◌, Bool, true, false, cond, List, [], ◌∷◌, length, map, get_or, replicate, slice_set, sym, refl, ap, ap₂, ◌∙◌, subst, arith}
 use Rattle.std.specs.Prelude.{fold}
 use Rattle.std.proofs.lemmas.Bool.{cases_eq, cases_lt}
 use Rattle.std.proofs.lemmas.List.{get_or-map, get_or-set_other, get_or-set_same, length-map, length-replicate, length-set}
@@ -10,6 +10,7 @@ use Rattle.hg_model.specs.Fame.{Marks, fame_marks}
 use Rattle.hg_model.specs.Links.{links}
 use Rattle.hg_model.specs.Order.{coin_at}
 use Rattle.hg_model.specs.Places.{list_below}
+use Rattle.hg_model.proofs.PlacesLaws.{list_below-same}
 use Rattle.hg_model.specs.Shares.{whole}
 use Rattle.hg_life.specs.Calls.{IsSettled, settle_changes}
 use Rattle.hg_life.specs.History.{Change}
@@ -182,16 +183,6 @@ shows_own members m v start node last =
 
 -- ---- the world of a storm
 
-blocks_same : {A : Type 0} (f g : ℕ → A) (n : ℕ) (test : ℕ → Bool) → ((m : ℕ) → m < n → test m ≡ true → f m ≡ g m) → list_below f n test ≡ list_below g n test
-unfolding list_below
-blocks_same f g zero test same = refl
-blocks_same {A} f g (suc n) test same =
-    ap₂ (λ (xs ys : List A). xs ++ ys) (blocks_same f g n test (λ m low is. same m (omega (arith, low)) is)) (last (test n) refl)
-  where
-    last : (b : Bool) → test n ≡ b → cond b (f n ∷ []) [] ≡ cond b (g n ∷ []) []
-    last true is = ap (λ (x : A). x ∷ []) (same n (omega arith) is)
-    last false is = refl
-
 module _ (members : MemberList) (turns room seed : ℕ) (s : Storm) (is : IsStorm members turns room seed s) where
   abbrev w : WorldView
   w = s.world
@@ -247,6 +238,6 @@ module _ (members : MemberList) (turns room seed : ℕ) (s : Storm) (is : IsStor
   pub storm_shown : world_outcome members s.world ≡ shown_world members s.world
   storm_shown =
       ap (λ (pieces : List Printed). let o : Outcome = record { names = names_of members; printed = pieces } in o)
-      (blocks_same (kept_at members w) (block_at members w) (length members.entries) (has_node members) (λ m low node.
+      (list_below-same (kept_at members w) (block_at members w) (length members.entries) (has_node members) (has_node members) (λ m low. refl) (λ m low node.
       let lawful = is.lawful.sites m (omega (arith, low, storm_count)) in
       ap (λ (b : Block). let p : Printed = printed.Block b in p) (shows_own members m (node_at w m) (starts_so m low) lawful.node (last_settled m low node))))

@@ -11,13 +11,18 @@ use Rattle.hg_script.specs.declared.fault.ScriptFault.{ScriptFault}
 use Rattle.hg_script.specs.declared.line.Line.{Line}
 use Rattle.hg_script.specs.Script.{lines_of}
 use Rattle.hg_made.specs.Made.{generate}
-use Rattle.hg_command.specs.Asked.{Asked, CheckFiles, KeepFiles, MadeRun, NodeFiles, RunFiles, StormRun, ask, check, keep, make, prove, request_of, run, serve, storm, take, texts}
+use Rattle.hg_command.specs.Asked.{Asked, CheckFiles, KeepFiles, MadeRun, NodeFiles, RunFiles, StormRun, ask, check, keep, keep_files, make, node_files, prove, request_of, run, serve, storm, take, texts}
+use Rattle.hg_command.specs.declared.request.KeepRequest.{KeepRequest}
+use Rattle.hg_command.specs.declared.request.NodeRequest.{NodeRequest}
 use Rattle.hg_certify.specs.Proving.{IsProofOf}
 use Rattle.hg_certify.specs.Showing.{IsSafeBeside, ShowsTo, judged_by}
 use Rattle.hg_certify.specs.Text.{shown_text}
 use Rattle.hg_exchange.specs.declared.message.MessageFault.{MessageFault}
 use Rattle.hg_exchange.specs.Exchanges.{IsAnswering, IsAsking, IsTakingText, played_node}
 use Rattle.hg_exchange.specs.Messages.{message_of}
+use Rattle.hg_io.specs.declared.disk.Disk as disk
+use Rattle.hg_io.specs.declared.shelf.Shelf as shelf
+use Rattle.hg_io.specs.declared.sink.Sink as sink
 use Rattle.hg_keep.specs.Events.{events_of}
 use Rattle.hg_keep.specs.declared.events.EventFault.{EventFault}
 use Rattle.hg_play.specs.Agree.{IsAgreed}
@@ -38,6 +43,7 @@ use Rattle.hg_top.specs.declared.status.File.TheVariants as file
 use Rattle.hg_top.specs.declared.status.Refusal.TheVariants.{Fault}
 use Rattle.hg_top.specs.declared.status.Status.{Status}
 use Rattle.hg_top.specs.declared.status.Status.TheVariants.{Usage, Members, Own, Script, Events, Proof, Wire}
+use Rattle.hg_top.specs.Ends.{EndsOnDisk}
 use Rattle.hg_top.specs.Work.{Work, takes}
 use Rattle.hg_top.specs.Work.Work.{Writes, Stops, Keeps}
 
@@ -146,6 +152,16 @@ own_work k members (Some own) = events_work k.events (node_work k members own)
 abbrev pub keep_work : KeepFiles → Work
 keep_work k = members_work k.members (λ members. own_work k members (own_in members k.own))
 
+-- what `keep` was asked for
+abbrev pub keep_for : KeepRequest → Work
+keep_for r = keep_work (keep_files r)
+
+-- how a call ended that put the events to the node of this member: a shelf F, standard output K and a disk W, each before
+-- and after
+abbrev pub OwnKeepEnds : {S T D : Type 0} → shelf.Ghosts S → sink.Ghosts T → disk.Ghosts D → S → S → T → T → D → D → KeepRequest → MemberList → ℕ → Status → Type 0
+OwnKeepEnds F K W s t out written before after r members own status =
+    EndsOnDisk F K W s t out written before after (own_work (keep_files r) members (Some own)) status
+
 -- ---- prove
 
 -- where there is such a member
@@ -228,10 +244,24 @@ play_work script next members own = lines_work script members 0 (λ lines. next 
 abbrev pub played_work : NodeFiles → (MemberList → NodeView Secrets → Work) → Work
 played_work f next = members_work f.members (λ members. if_own (own_in members f.own) (play_work f.script next members))
 
+-- what a node does
 abbrev pub exchange_work : Exchange → MemberList → NodeView Secrets → Work
 exchange_work Ask = ask_work
 exchange_work (Serve have) = serve_work have.now
 exchange_work (Take rows) = take_work rows.now
+
+-- .. once these lines were played, or the script of this name, or that of a request
+abbrev pub serve_after : MemberList → List Line → ℕ → List ℕ → Work
+serve_after members lines own have = serve_work have members (played_node members lines own)
+
+abbrev pub take_after : MemberList → List Line → ℕ → List ℕ → Work
+take_after members lines own rows = take_work rows members (played_node members lines own)
+
+abbrev pub exchange_by : MemberList → ℕ → List ℕ → Exchange → Work
+exchange_by members own script exchange = play_work script (exchange_work exchange) members own
+
+abbrev pub exchange_for : NodeRequest → Exchange → Work
+exchange_for r exchange = played_work (node_files r) (exchange_work exchange)
 
 -- ---- all commands
 

@@ -3,11 +3,13 @@ use Rattle.std.specs.Prelude.{ℕ, ◌≡◌, ◌<◌, ◌≤◌, ◌⊎◌, ⊤
 use Rattle.std.specs.Option.{ForSome}
 use Rattle.hg_io.specs.Faults.{raised}
 use Rattle.hg_io.specs.Files.{Files}
+use Rattle.hg_io.specs.declared.disk.Disk as disk
 use Rattle.hg_io.specs.declared.shelf.Shelf as shelf
+use Rattle.hg_io.specs.declared.sink.Sink as sink
 use Rattle.hg_top.specs.declared.status.File.{File}
 use Rattle.hg_top.specs.declared.status.Status.{Status}
 use Rattle.hg_top.specs.declared.status.Status.TheVariants.{Done, ReadFault, Memory}
-use Rattle.hg_top.specs.Course.{Course, HasDiskFault, HasMore, HasReadFault, HasWithin, HasWriteFault, IsIdle, IsQuiet, Tells, reading}
+use Rattle.hg_top.specs.Course.{Course, HasDiskFault, HasMore, HasReadFault, HasWithin, HasWriteFault, IsIdle, IsQuiet, Tells, course, disk_course, no_disk, reading}
 use Rattle.hg_top.specs.Keeps.{KeepEnds, KeepSpares, KeepSyncs, keep_status}
 use Rattle.hg_top.specs.Work.{Work, limit_of, too_long}
 use Rattle.hg_top.specs.Work.Work.{Writes, Stops, Reads, Keeps}
@@ -46,6 +48,19 @@ Completes (Reads file name next) c status =
 Completes (Keeps k) c status =
     (HasWriteFault c → ⊥) → (HasDiskFault c.disk k.journal → ⊥)
     → ForSome c.disk.before.reads (λ bytes. Gives (keep_status k bytes) status)
+
+-- the same of a call with a shelf F and standard output K, each before and after
+abbrev pub EndsOn : {S T : Type 0} → shelf.Ghosts S → sink.Ghosts T → S → S → T → T → Work → Status → Type 0
+EndsOn F K s t out written work status = Ends work (course F K s t out written no_disk) status
+
+-- .. and with a disk W
+abbrev pub EndsOnDisk : {S T D : Type 0} → shelf.Ghosts S → sink.Ghosts T → disk.Ghosts D → S → S → T → T → D → D → Work → Status → Type 0
+EndsOnDisk F K W s t out written before after work status =
+    Ends work (course F K s t out written (disk_course W before after)) status
+
+abbrev pub CompletesOnDisk : {S T D : Type 0} → shelf.Ghosts S → sink.Ghosts T → disk.Ghosts D → S → S → T → T → D → D → Work → Status → Type 0
+CompletesOnDisk F K W s t out written before after work status =
+    Completes work (course F K s t out written (disk_course W before after)) status
 
 -- the work begins with no file
 abbrev pub ReadsNoFile : Work → Type 0

@@ -1,10 +1,9 @@
 ghost use Rattle.std.specs.Prelude.{◌<◌, All, length};
 ghost use Rattle.hg_exchange.specs.Exchanges.{IsAsking, played_node};
 ghost use Rattle.hg_script.specs.Lawful.{IsLine};
-ghost use Rattle.hg_command.specs.Asked.{node_files};
-ghost use Rattle.hg_top.specs.Commands.{exchange_work, play_work, played_work, serve_work, take_work};
-ghost use Rattle.hg_top.specs.Course.{OnlyReads, course, no_disk};
-ghost use Rattle.hg_top.specs.Ends.{Ends};
+ghost use Rattle.hg_top.specs.Commands.{exchange_by, exchange_for, serve_after, take_after};
+ghost use Rattle.hg_top.specs.Course.{OnlyReads};
+ghost use Rattle.hg_top.specs.Ends.{EndsOn};
 ghost use Rattle.hg_top.specs.Writing.{WroteOn};
 
 use crate::reading::{lines_from, members_from, message_from, own_in};
@@ -59,8 +58,7 @@ fn serve_message<F: Shelf, K: Sink>(
 ) -> Status
     requires own { own < length members.now.entries }
     requires lines { All (IsLine members.now 0) lines.now }
-    ensures ends { Ends (serve_work have.now members.now (played_node members.now lines.now own))
-        (course F.Shelf K.Sink shelf.old shelf.new out.old out.new no_disk) result }
+    ensures ends { EndsOn F.Shelf K.Sink shelf.old shelf.new out.old out.new (serve_after members.now lines.now own have.now) result }
     ensures same { OnlyReads F.Shelf shelf.old shelf.new }
 {
     let message = match message_from(alloc, shelf, Want::Have, have) {
@@ -85,8 +83,7 @@ fn take_message<F: Shelf, K: Sink>(
 ) -> Status
     requires own { own < length members.now.entries }
     requires lines { All (IsLine members.now 0) lines.now }
-    ensures ends { Ends (take_work rows.now members.now (played_node members.now lines.now own))
-        (course F.Shelf K.Sink shelf.old shelf.new out.old out.new no_disk) result }
+    ensures ends { EndsOn F.Shelf K.Sink shelf.old shelf.new out.old out.new (take_after members.now lines.now own rows.now) result }
     ensures same { OnlyReads F.Shelf shelf.old shelf.new }
 {
     let message = match message_from(alloc, shelf, Want::Rows, rows) {
@@ -110,8 +107,7 @@ fn play_script<F: Shelf, K: Sink>(
     out: &mut K,
 ) -> Status
     requires { own < length members.now.entries }
-    ensures ends { Ends (play_work script.now (exchange_work exchange.entry) members.now own)
-        (course F.Shelf K.Sink shelf.old shelf.new out.old out.new no_disk) result }
+    ensures ends { EndsOn F.Shelf K.Sink shelf.old shelf.new out.old out.new (exchange_by members.now own script.now exchange.entry) result }
     ensures same { OnlyReads F.Shelf shelf.old shelf.new }
 {
     let lines = match lines_from(alloc, shelf, script, members, 0) {
@@ -134,8 +130,7 @@ pub(crate) fn play_node<F: Shelf, K: Sink>(
     shelf: &mut F,
     out: &mut K,
 ) -> Status
-    ensures ends { Ends (played_work (node_files asked.now) (exchange_work exchange.entry))
-        (course F.Shelf K.Sink shelf.old shelf.new out.old out.new no_disk) result }
+    ensures ends { EndsOn F.Shelf K.Sink shelf.old shelf.new out.old out.new (exchange_for asked.now exchange.entry) result }
     ensures same { OnlyReads F.Shelf shelf.old shelf.new }
 {
     let members = match members_from(alloc, shelf, asked.members) {

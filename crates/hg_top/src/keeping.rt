@@ -1,8 +1,7 @@
-ghost use Rattle.std.specs.Prelude.{◌<◌, Some, length};
-ghost use Rattle.hg_command.specs.Asked.{keep_files};
-ghost use Rattle.hg_top.specs.Commands.{keep_work, own_work};
-ghost use Rattle.hg_top.specs.Course.{OnlyReads, course, disk_course};
-ghost use Rattle.hg_top.specs.Ends.{Ends};
+ghost use Rattle.std.specs.Prelude.{◌<◌, length};
+ghost use Rattle.hg_top.specs.Commands.{OwnKeepEnds, keep_for};
+ghost use Rattle.hg_top.specs.Course.{OnlyReads, disk_course};
+ghost use Rattle.hg_top.specs.Ends.{EndsOnDisk};
 ghost use Rattle.hg_top.specs.Keeps.{KeptOn, work_on};
 
 use crate::reading::{events_from, members_from, own_in};
@@ -47,8 +46,7 @@ fn keep_events<F: Shelf, D: Disk, K: Sink>(
     out: &mut K,
 ) -> Status
     requires { own < length members.now.entries }
-    ensures ends { Ends (own_work (keep_files asked.now) members.now (Some own))
-        (course F.Shelf K.Sink shelf.old shelf.new out.old out.new (disk_course D.Disk disk.old disk.new)) result }
+    ensures ends { OwnKeepEnds F.Shelf K.Sink D.Disk shelf.old shelf.new out.old out.new disk.old disk.new asked.now members.now own result }
     ensures same { OnlyReads F.Shelf shelf.old shelf.new }
 {
     let events = match events_from(alloc, shelf, asked.events) {
@@ -72,8 +70,7 @@ pub(crate) fn keep<F: Shelf, D: Disk, K: Sink>(
     disk: &mut D,
     out: &mut K,
 ) -> Status
-    ensures ends { Ends (keep_work (keep_files asked.now))
-        (course F.Shelf K.Sink shelf.old shelf.new out.old out.new (disk_course D.Disk disk.old disk.new)) result }
+    ensures ends { EndsOnDisk F.Shelf K.Sink D.Disk shelf.old shelf.new out.old out.new disk.old disk.new (keep_for asked.now) result }
     ensures same { OnlyReads F.Shelf shelf.old shelf.new }
 {
     let members = match members_from(alloc, shelf, asked.members) {

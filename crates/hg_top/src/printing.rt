@@ -198,29 +198,26 @@ fn print_proof_fault<E: Sink>(err: &mut E, why: Why) -> Result<(), Failed>
     )
 }
 
+/// Prints which file could not be read.
+fn print_read_fault<E: Sink>(err: &mut E, file: File) -> Result<(), Failed>
+    ensures { Prints E.Sink err.old err.new (status_line (Status.ReadFault file)) result }
+{
+    match file {
+        File::Members => print_text(err, b"hashgraph: cannot read the member file\n"),
+        File::Script => print_text(err, b"hashgraph: cannot read the script\n"),
+        File::Events => print_text(err, b"hashgraph: cannot read the event file\n"),
+        File::Proof => print_text(err, b"hashgraph: cannot read the proof file\n"),
+        File::Message => print_text(err, b"hashgraph: cannot read the message file\n"),
+    }
+}
+
 /// Prints one line, or nothing where all went well.
 fn print_status<E: Sink>(err: &mut E, status: Status) -> Result<(), Failed>
     ensures { Prints E.Sink err.old err.new (status_line status) result }
 {
     match status {
         Status::Done => Ok(()),
-        Status::ReadFault(File::Members) => print_text(
-            err,
-            b"hashgraph: cannot read the member file\n",
-        ),
-        Status::ReadFault(File::Script) => print_text(err, b"hashgraph: cannot read the script\n"),
-        Status::ReadFault(File::Events) => print_text(
-            err,
-            b"hashgraph: cannot read the event file\n",
-        ),
-        Status::ReadFault(File::Proof) => print_text(
-            err,
-            b"hashgraph: cannot read the proof file\n",
-        ),
-        Status::ReadFault(File::Message) => print_text(
-            err,
-            b"hashgraph: cannot read the message file\n",
-        ),
+        Status::ReadFault(file) => print_read_fault(err, file),
         Status::Usage => print_text(
             err,
             b"hashgraph: usage: run --members FILE --script FILE [--workers K] or make --members N --lines L --seed S [--workers K] or keep --members FILE --events FILE --own NAME --disk FILE [--time T] or prove --members FILE --script FILE --own NAME or check --members FILE --proof FILE or storm --members FILE --turns T --seed S [--room R] or ask --members FILE --script FILE --own NAME or serve --members FILE --script FILE --own NAME --have FILE or take --members FILE --script FILE --own NAME --rows FILE\n",

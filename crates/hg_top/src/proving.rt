@@ -1,8 +1,8 @@
 ghost use Rattle.std.specs.Prelude.{◌<◌, length};
 ghost use Rattle.hg_command.specs.Asked.{check_files, node_files};
 ghost use Rattle.hg_top.specs.Commands.{certificate_work, check_work, prove_work};
-ghost use Rattle.hg_top.specs.Course.{OnlyReads, course, no_disk};
-ghost use Rattle.hg_top.specs.Ends.{Ends};
+ghost use Rattle.hg_top.specs.Course.{OnlyReads};
+ghost use Rattle.hg_top.specs.Ends.{EndsOn};
 
 use crate::printing::print_text;
 use crate::reading::{lines_from, members_from, own_in, proof_from};
@@ -24,8 +24,7 @@ fn prove_play<F: Shelf, K: Sink>(
     out: &mut K,
 ) -> Status
     requires { own < length members.now.entries }
-    ensures ends { Ends (certificate_work script.now members.now own)
-        (course F.Shelf K.Sink shelf.old shelf.new out.old out.new no_disk) result }
+    ensures ends { EndsOn F.Shelf K.Sink shelf.old shelf.new out.old out.new (certificate_work script.now members.now own) result }
     ensures same { OnlyReads F.Shelf shelf.old shelf.new }
 {
     let lines = match lines_from(alloc, shelf, script, members, 0) {
@@ -45,8 +44,7 @@ pub(crate) fn prove<F: Shelf, K: Sink>(
     shelf: &mut F,
     out: &mut K,
 ) -> Status
-    ensures ends { Ends (prove_work (node_files asked.now))
-        (course F.Shelf K.Sink shelf.old shelf.new out.old out.new no_disk) result }
+    ensures ends { EndsOn F.Shelf K.Sink shelf.old shelf.new out.old out.new (prove_work (node_files asked.now)) result }
     ensures same { OnlyReads F.Shelf shelf.old shelf.new }
 {
     let members = match members_from(alloc, shelf, asked.members) {
@@ -66,8 +64,7 @@ pub(crate) fn check<F: Shelf, K: Sink>(
     shelf: &mut F,
     out: &mut K,
 ) -> Status
-    ensures ends { Ends (check_work (check_files asked.now))
-        (course F.Shelf K.Sink shelf.old shelf.new out.old out.new no_disk) result }
+    ensures ends { EndsOn F.Shelf K.Sink shelf.old shelf.new out.old out.new (check_work (check_files asked.now)) result }
     ensures same { OnlyReads F.Shelf shelf.old shelf.new }
 {
     let members = match members_from(alloc, shelf, asked.members) {

@@ -1,8 +1,8 @@
 ghost use Rattle.std.specs.Prelude.{◌≤◌, IfOk};
 ghost use Rattle.hg_command.specs.Asked.{storm_run};
 ghost use Rattle.hg_top.specs.Commands.{IsStormOutcome, storm_work};
-ghost use Rattle.hg_top.specs.Course.{OnlyReads, course, no_disk};
-ghost use Rattle.hg_top.specs.Ends.{Ends};
+ghost use Rattle.hg_top.specs.Course.{OnlyReads};
+ghost use Rattle.hg_top.specs.Ends.{EndsOn};
 
 use crate::reading::members_from;
 use crate::status::{Status, status_of};
@@ -54,8 +54,7 @@ pub(crate) fn storm<R: Threads + Wait + Sync, F: Shelf, K: Sink, G: Gate + Sync>
     gate: &G,
 ) -> Status
     requires { 1 ≤ asked.now.room }
-    ensures ends { Ends (storm_work (storm_run asked.now))
-        (course F.Shelf K.Sink shelf.old shelf.new out.old out.new no_disk) result }
+    ensures ends { EndsOn F.Shelf K.Sink shelf.old shelf.new out.old out.new (storm_work (storm_run asked.now)) result }
     ensures same { OnlyReads F.Shelf shelf.old shelf.new }
 {
     let members = match members_from(alloc, shelf, asked.members) {

@@ -1,8 +1,8 @@
 ghost use Rattle.std.specs.Prelude.{◌≡◌, ◌≤◌, ℕ, false};
 ghost use Rattle.hg_command.specs.Asked.{made_run, run_files};
 ghost use Rattle.hg_top.specs.Commands.{IsSummaryOf, KeepsNothing, asks, run_work, script_work, work_for};
-ghost use Rattle.hg_top.specs.Course.{OnlyReads, course, disk_course, no_disk};
-ghost use Rattle.hg_top.specs.Ends.{Completes, Ends, ReadsNoFile};
+ghost use Rattle.hg_top.specs.Course.{OnlyReads};
+ghost use Rattle.hg_top.specs.Ends.{CompletesOnDisk, EndsOn, EndsOnDisk, ReadsNoFile};
 ghost use Rattle.hg_top.specs.Printing.{IsPrintedOn, status_line};
 ghost use Rattle.hg_top.specs.Writing.{WroteOn, may_write};
 
@@ -38,8 +38,7 @@ fn run_script<R: Threads + Wait + Sync, F: Shelf, K: Sink, G: Gate + Sync>(
     gate: &G,
 ) -> Status
     requires { workers ≤ 16 }
-    ensures ends { Ends (script_work script.now workers members.now)
-        (course F.Shelf K.Sink shelf.old shelf.new out.old out.new no_disk) result }
+    ensures ends { EndsOn F.Shelf K.Sink shelf.old shelf.new out.old out.new (script_work script.now workers members.now) result }
     ensures same { OnlyReads F.Shelf shelf.old shelf.new }
 {
     let lines = match lines_from(alloc, shelf, script, members, workers) {
@@ -63,8 +62,7 @@ fn run<R: Threads + Wait + Sync, F: Shelf, K: Sink, G: Gate + Sync>(
     gate: &G,
 ) -> Status
     requires { asked.now.workers ≤ 16 }
-    ensures ends { Ends (run_work (run_files asked.now))
-        (course F.Shelf K.Sink shelf.old shelf.new out.old out.new no_disk) result }
+    ensures ends { EndsOn F.Shelf K.Sink shelf.old shelf.new out.old out.new (run_work (run_files asked.now)) result }
     ensures same { OnlyReads F.Shelf shelf.old shelf.new }
 {
     let members = match members_from(alloc, shelf, asked.members) {
@@ -138,11 +136,9 @@ pub fn hashgraph<R: Threads + Wait + Sync, F: Shelf, D: Disk, K: Sink, E: Sink, 
     // How the work that the words ask for ended: with its text on `out`, or for which cause, with which files started,
     // and what became of the disk. No two nodes' orders part ways in the run that is written, where the dishonest
     // members have less than a third of the stake and names do not collide.
-    ensures ends { Ends (work_for words.now)
-        (course F.Shelf K.Sink shelf.old shelf.new out.old out.new (disk_course D.Disk disk.old disk.new)) result }
+    ensures ends { EndsOnDisk F.Shelf K.Sink D.Disk shelf.old shelf.new out.old out.new disk.old disk.new (work_for words.now) result }
     // That it must end with its text, or with the status of what is refused, if nothing fails and memory does not run out.
-    ensures complete { Completes (work_for words.now)
-        (course F.Shelf K.Sink shelf.old shelf.new out.old out.new (disk_course D.Disk disk.old disk.new)) result }
+    ensures complete { CompletesOnDisk F.Shelf K.Sink D.Disk shelf.old shelf.new out.old out.new disk.old disk.new (work_for words.now) result }
     ensures unwritten { may_write result ≡ false → out.new ≡ out.old }
     ensures unread { ReadsNoFile (work_for words.now) → shelf.new ≡ shelf.old }
     ensures unkept { KeepsNothing (asks words.now) → disk.new ≡ disk.old }
