@@ -95,12 +95,18 @@ fn make<R: Threads + Wait + Sync, K: Sink, G: Gate + Sync>(
     requires workers { asked.now.workers ≤ 16 }
     ensures { WroteOn K.Sink out.old out.new (IsSummaryOf (made_run asked.now)) result }
 {
-    let (list, mut lines) = match generate(alloc, asked.seed, asked.members, asked.lines) {
+    let MakeRequest {
+        members,
+        lines,
+        seed,
+        workers,
+    } = *asked;
+    let (list, mut lines) = match generate(alloc, seed, members, lines) {
         Ok(made) => made,
         Err(Memory) => return Status::Memory,
     };
     let voters = Voters::new(gate);
-    match summary(rt, alloc, &list, &mut lines, asked.workers, &voters, gate) {
+    match summary(rt, alloc, &list, &mut lines, workers, &voters, gate) {
         Ok((summary, world)) => {
             let status = status_of(summary_of(&summary, out));
             forget(world);
