@@ -58,7 +58,8 @@ fn serve_message<F: Shelf, K: Sink>(
 ) -> Status
     requires own { own < length members.now.entries }
     requires lines { All (IsLine members.now 0) lines.now }
-    ensures ends { EndsOn F.Shelf K.Sink shelf.old shelf.new out.old out.new (serve_after members.now lines.now own have.now) result }
+    ensures ends { EndsOn F.Shelf K.Sink shelf.old shelf.new out.old out.new
+        (serve_after members.now lines.now own have.now) result }
     ensures same { OnlyReads F.Shelf shelf.old shelf.new }
 {
     let message = match message_from(alloc, shelf, Want::Have, have) {
@@ -83,7 +84,8 @@ fn take_message<F: Shelf, K: Sink>(
 ) -> Status
     requires own { own < length members.now.entries }
     requires lines { All (IsLine members.now 0) lines.now }
-    ensures ends { EndsOn F.Shelf K.Sink shelf.old shelf.new out.old out.new (take_after members.now lines.now own rows.now) result }
+    ensures ends { EndsOn F.Shelf K.Sink shelf.old shelf.new out.old out.new
+        (take_after members.now lines.now own rows.now) result }
     ensures same { OnlyReads F.Shelf shelf.old shelf.new }
 {
     let message = match message_from(alloc, shelf, Want::Rows, rows) {
@@ -107,7 +109,8 @@ fn play_script<F: Shelf, K: Sink>(
     out: &mut K,
 ) -> Status
     requires { own < length members.now.entries }
-    ensures ends { EndsOn F.Shelf K.Sink shelf.old shelf.new out.old out.new (exchange_by members.now own script.now exchange.entry) result }
+    ensures ends { EndsOn F.Shelf K.Sink shelf.old shelf.new out.old out.new
+        (exchange_by members.now own script.now exchange.entry) result }
     ensures same { OnlyReads F.Shelf shelf.old shelf.new }
 {
     let lines = match lines_from(alloc, shelf, script, members, 0) {

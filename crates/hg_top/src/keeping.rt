@@ -46,7 +46,8 @@ fn keep_events<F: Shelf, D: Disk, K: Sink>(
     out: &mut K,
 ) -> Status
     requires { own < length members.now.entries }
-    ensures ends { OwnKeepEnds F.Shelf K.Sink D.Disk shelf.old shelf.new out.old out.new disk.old disk.new asked.now members.now own result }
+    ensures ends { OwnKeepEnds F.Shelf K.Sink D.Disk shelf.old shelf.new out.old out.new disk.old disk.new
+        asked.now members.now own result }
     ensures same { OnlyReads F.Shelf shelf.old shelf.new }
 {
     let events = match events_from(alloc, shelf, asked.events) {
@@ -70,7 +71,8 @@ pub(crate) fn keep<F: Shelf, D: Disk, K: Sink>(
     disk: &mut D,
     out: &mut K,
 ) -> Status
-    ensures ends { EndsOnDisk F.Shelf K.Sink D.Disk shelf.old shelf.new out.old out.new disk.old disk.new (keep_for asked.now) result }
+    ensures ends { EndsOnDisk F.Shelf K.Sink D.Disk shelf.old shelf.new out.old out.new disk.old disk.new
+        (keep_for asked.now) result }
     ensures same { OnlyReads F.Shelf shelf.old shelf.new }
 {
     let members = match members_from(alloc, shelf, asked.members) {

@@ -24,7 +24,8 @@ fn prove_play<F: Shelf, K: Sink>(
     out: &mut K,
 ) -> Status
     requires { own < length members.now.entries }
-    ensures ends { EndsOn F.Shelf K.Sink shelf.old shelf.new out.old out.new (certificate_work script.now members.now own) result }
+    ensures ends { EndsOn F.Shelf K.Sink shelf.old shelf.new out.old out.new
+        (certificate_work script.now members.now own) result }
     ensures same { OnlyReads F.Shelf shelf.old shelf.new }
 {
     let lines = match lines_from(alloc, shelf, script, members, 0) {

@@ -38,7 +38,8 @@ fn run_script<R: Threads + Wait + Sync, F: Shelf, K: Sink, G: Gate + Sync>(
     gate: &G,
 ) -> Status
     requires { workers ≤ 16 }
-    ensures ends { EndsOn F.Shelf K.Sink shelf.old shelf.new out.old out.new (script_work script.now workers members.now) result }
+    ensures ends { EndsOn F.Shelf K.Sink shelf.old shelf.new out.old out.new
+        (script_work script.now workers members.now) result }
     ensures same { OnlyReads F.Shelf shelf.old shelf.new }
 {
     let lines = match lines_from(alloc, shelf, script, members, workers) {
@@ -136,9 +137,11 @@ pub fn hashgraph<R: Threads + Wait + Sync, F: Shelf, D: Disk, K: Sink, E: Sink, 
     // How the work that the words ask for ended: with its text on `out`, or for which cause, with which files started,
     // and what became of the disk. No two nodes' orders part ways in the run that is written, where the dishonest
     // members have less than a third of the stake and names do not collide.
-    ensures ends { EndsOnDisk F.Shelf K.Sink D.Disk shelf.old shelf.new out.old out.new disk.old disk.new (work_for words.now) result }
+    ensures ends { EndsOnDisk F.Shelf K.Sink D.Disk shelf.old shelf.new out.old out.new disk.old disk.new
+        (work_for words.now) result }
     // That it must end with its text, or with the status of what is refused, if nothing fails and memory does not run out.
-    ensures complete { CompletesOnDisk F.Shelf K.Sink D.Disk shelf.old shelf.new out.old out.new disk.old disk.new (work_for words.now) result }
+    ensures complete { CompletesOnDisk F.Shelf K.Sink D.Disk shelf.old shelf.new out.old out.new disk.old disk.new
+        (work_for words.now) result }
     ensures unwritten { may_write result ≡ false → out.new ≡ out.old }
     ensures unread { ReadsNoFile (work_for words.now) → shelf.new ≡ shelf.old }
     ensures unkept { KeepsNothing (asks words.now) → disk.new ≡ disk.old }
