@@ -1,3 +1,4 @@
 pub mod Leading
 pub mod Passing
 pub mod Beginning
+mod Simple

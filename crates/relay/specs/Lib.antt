@@ -3,3 +3,4 @@ pub mod Steps
 pub mod Moments
 pub mod Relaying
 pub mod Top
+pub mod Words

@@ -1,5 +1,5 @@
 -- The program in one call: what is told at the end, and how a call ends
-use Rattle.std.specs.Prelude.{◌≡◌, ◌⊎◌, ℕ, List, Option, Some, None, is_some, codes}
+use Rattle.std.specs.Prelude.{◌≡◌, ◌⊎◌, ℕ, List, Option, Some, None, Result, Ok, Err, is_some, codes}
 use Rattle.hg_io.specs.Files.{Files}
 use Rattle.hg_io.specs.declared.shelf.Shelf as shelf
 use Rattle.hg_life.specs.Members.{MemberList}
@@ -13,7 +13,7 @@ use Rattle.hg_top.specs.Printing.{status_line}
 use Rattle.hg_top.specs.Work.{nothing_more}
 use Rattle.hg_top.specs.declared.status.File.TheVariants as file
 use Rattle.hg_top.specs.declared.status.Status.{Status}
-use Rattle.hg_top.specs.declared.status.Status.TheVariants.{Own, Usage}
+use Rattle.hg_top.specs.declared.status.Status.TheVariants.{Memory, Own, Usage}
 use Rattle.hg_world.specs.World.{Secrets}
 use Rattle.relay.specs.declared.request.Request.{Request}
 use Rattle.relay.specs.declared.top.Relayed.{Relayed}
@@ -49,3 +49,14 @@ RelayEnds F before after asked a b status =
 abbrev pub told_line : Status → List ℕ
 told_line Usage = codes "hashgraph: usage: relay ask|serve --members FILE --own NAME --disk FILE --exchanges N --time T --block FILE [--proof FILE]\n"
 told_line status = status_line status
+
+-- the words that were found, or what a call comes to without them: one was no text, or memory ran out
+abbrev pub words_in : {W E : Type 0} → Result (Option W) E → Result W Status
+words_in (Ok (Some words)) = Ok words
+words_in (Ok None) = Err Usage
+words_in (Err e) = Err Memory
+
+-- the status of a call, however it came
+abbrev pub ended_as : Result Status Status → Status
+ended_as (Ok status) = status
+ended_as (Err status) = status

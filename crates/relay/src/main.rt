@@ -10,8 +10,10 @@
 //! ```
 #![tactic(auto)]
 
-ghost use Rattle.hg_top.specs.Printing.{IsPrintedOn};
-ghost use Rattle.relay.specs.Top.{told_line};
+ghost use Rattle.std.specs.Prelude.{◌≡◌};
+ghost use Rattle.std.specs.Process.{exit_status};
+ghost use Rattle.hg_top.specs.Printing.{IsPrintedOn, status_code};
+ghost use Rattle.relay.specs.Top.{ended_as, told_line, words_in};
 
 mod gossip;
 mod request;
@@ -61,6 +63,17 @@ fn tell<E: Sink>(err: &mut E, status: Status)
     }
 }
 
+/// The words of the command line, if each is text, or what a call comes to without them.
+fn words_in(found: Result<Option<Vec<String>>, Memory>) -> Result<Vec<String>, Status>
+    ensures { result ≡ words_in found }
+{
+    match found {
+        Ok(Some(words)) => Ok(words),
+        Ok(None) => Err(Status::Usage),
+        Err(Memory) => Err(Status::Memory),
+    }
+}
+
 /// What the words of the command line come to.
 fn run(rt: &HostRuntime, words: &[String]) -> Result<Status, Status> {
     let Some(asked) = read_words(rt.alloc(), words)? else {
@@ -76,13 +89,20 @@ fn run(rt: &HostRuntime, words: &[String]) -> Result<Status, Status> {
     Ok(status_of(write_files(rt, &asked, &relayed)))
 }
 
-fn main(rt: HostRuntime) -> ExitCode {
-    let ended = match words_of(&rt) {
-        Ok(Some(words)) => run(&rt, words.as_slice()),
-        Ok(None) => Err(Status::Usage),
-        Err(Memory) => Err(Status::Memory),
-    };
+/// Tells what a relay came to, and gives the process's exit status of it.
+fn end<E: Sink>(err: &mut E, ended: Result<Status, Status>) -> ExitCode
+    ensures told { IsPrintedOn E.Sink err.old err.new (told_line (ended_as ended)) }
+    ensures status { exit_status result ≡ status_code (ended_as ended) }
+{
     let (Ok(status) | Err(status)) = ended;
-    tell(&mut Stream::new(rt.stderr()), status);
+    tell(err, status);
     ExitCode::from(status.code())
+}
+
+fn main(rt: HostRuntime) -> ExitCode {
+    let ended = match words_in(words_of(&rt)) {
+        Ok(words) => run(&rt, words.as_slice()),
+        Err(status) => Err(status),
+    };
+    end(&mut Stream::new(rt.stderr()), ended)
 }
