@@ -13,16 +13,39 @@
 //! ```
 #![tactic(auto)]
 
+ghost use Rattle.std.specs.Prelude.{◌≡◌};
+ghost use Rattle.std.specs.Process.{exit_status};
+ghost use Rattle.hg_cli.specs.Words.{words_in};
+ghost use Rattle.hg_top.specs.Printing.{status_code};
+
 use hg_io::NoGate;
 use hg_model::Memory;
 use hg_stream::{RealDisk, RealShelf, Stream, words_of};
-use hg_top::{NoWords, hashgraph, without_words};
+use hg_top::{NoWords, Status, hashgraph, without_words};
 use std::process::ExitCode;
+
+/// The words of the command line, or why there are none.
+fn words_in(found: Result<Option<Vec<String>>, Memory>) -> Result<Vec<String>, NoWords>
+    ensures { result ≡ words_in found }
+{
+    match found {
+        Ok(Some(words)) => Ok(words),
+        Ok(None) => Err(NoWords::NotText),
+        Err(Memory) => Err(NoWords::Memory),
+    }
+}
+
+/// The exit status of a process that came to this.
+fn exit_of(status: Status) -> ExitCode
+    ensures { exit_status result ≡ status_code status }
+{
+    ExitCode::from(status.code())
+}
 
 fn main(rt: HostRuntime) -> ExitCode {
     let mut err = Stream::new(rt.stderr());
-    let status = match words_of(&rt) {
-        Ok(Some(words)) => {
+    let status = match words_in(words_of(&rt)) {
+        Ok(words) => {
             let mut shelf = RealShelf::new(&rt);
             let mut disk = RealDisk::new(&rt);
             let mut out = Stream::new(rt.stdout());
@@ -38,8 +61,7 @@ fn main(rt: HostRuntime) -> ExitCode {
                 &NoGate,
             )
         }
-        Ok(None) => without_words(NoWords::NotText, &mut err),
-        Err(Memory) => without_words(NoWords::Memory, &mut err),
+        Err(why) => without_words(why, &mut err),
     };
-    ExitCode::from(status.code())
+    exit_of(status)
 }
