@@ -9,12 +9,10 @@ anew each time, for the first `length` rows.
 
 def bits(mask):
     """The places in a set of rows, ascending."""
-    place = 0
     while mask:
-        if mask & 1:
-            yield place
-        mask >>= 1
-        place += 1
+        least = mask & -mask
+        yield least.bit_length() - 1
+        mask ^= least
 
 
 class Graph:
@@ -43,13 +41,12 @@ class Graph:
         return 3 * weight > 2 * self.total
 
     def fork_in(self, among, member):
-        """Whether two of the member's rows in a set are a fork."""
+        """Whether two of the member's rows in a set are a fork.
+
+        They are none where the last one descends from all of them.
+        """
         mine = among & self.rows_by[member]
-        for place in bits(mine):
-            earlier = mine & ((1 << place) - 1)
-            if earlier & ~self.self_ancestors[place]:
-                return True
-        return False
+        return mine != 0 and mine & ~self.self_ancestors[mine.bit_length() - 1] != 0
 
     def forkers(self, length=None):
         """The members that have a fork among the first rows."""
