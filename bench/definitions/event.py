@@ -112,6 +112,7 @@ def decode_first(data):
     return row, reader.at
 
 
+@functools.lru_cache(4096)
 def decode(data):
     """The event that the bytes spell, wholly; raises `Fault`."""
     row, length = decode_first(data)

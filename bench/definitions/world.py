@@ -12,12 +12,13 @@ from play import World
 from script import read_script
 from scripts import ScriptMaker
 
-COUNTS = [2, 3, 3, 4, 4, 4, 5, 5, 6, 6, 7, 7, 8, 9, 10, 11, 12, 13]
+SMALL, LARGE = [2, 3, 3, 4, 4, 4, 5, 5, 6, 7], [8, 9, 10, 11, 12, 13]
 
 
 def world_file(rng):
     """A member file of two to thirteen members."""
-    return member_file(rng, rng.choice(COUNTS), few_nodes=rng.random() < 0.2)
+    count = rng.choice(LARGE if rng.random() < 0.1 else SMALL)
+    return member_file(rng, count, few_nodes=rng.random() < 0.2)
 
 
 class WorldMaker(ScriptMaker):
@@ -29,12 +30,12 @@ class WorldMaker(ScriptMaker):
     def __init__(self, rng, data, beyond):
         super().__init__(rng, data)
         count = len(self.members.list)
-        self.most_rows = rng.randint(20, 90) if count < 8 else rng.randint(60, 120)
+        self.most_rows = rng.randint(20, 70) if count < 8 else rng.randint(60, 100)
         self.everyone = list(self.nodes)
         self.mixed = True
         self.choose_forgers(beyond, rng.choice([0, 0.1, 0.3, 0.6]))
         self.weights = {"do_show": 3, "do_silence": rng.choice([0, 0.3, 3]),
-                        "do_fork": rng.choice([0, 1, 4, 8])}
+                        "do_fork": rng.choice([8, 20] if beyond else [0, 1, 4, 8])}
         if rng.random() < (0.9 if count > 7 else 0.3):
             self.weights.update(do_sync=1, do_layer=40, do_face=0, do_pull=0)
 

@@ -73,11 +73,15 @@ class Runs:
         environment = {**os.environ, **{name: str(value) for name, value in settings.items()}}
         if settings:
             environment["LD_PRELOAD"] = self.library
-        done = subprocess.run([program, *words], cwd=self.folder, input=heard, capture_output=True, check=False,
-                              timeout=SECONDS_MOST, env=environment)
+        try:
+            done = subprocess.run([program, *words], cwd=self.folder, input=heard, capture_output=True, check=False,
+                                  timeout=SECONDS_MOST, env=environment)
+            outcome = done.returncode, done.stdout, done.stderr
+        except subprocess.TimeoutExpired:
+            outcome = -1, b"", b"no end in time"
         self.count, self.files = self.count + 1, {name: data for name, data in files.items() if name not in self.written}
         for name in self.written:
             if os.path.exists(self.path(name)):
                 with open(self.path(name), "rb") as file:
                     self.files[name] = file.read()
-        return (done.returncode, done.stdout, done.stderr), self.files
+        return outcome, self.files
