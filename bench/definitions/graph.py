@@ -33,6 +33,7 @@ class Graph:
         self.rounds = []
         self.is_witness = []
         self.witnesses = {}
+        self.any_witness = 0
         self.votes = {}
         self.voters = {}
 
@@ -74,8 +75,8 @@ class Graph:
         self.rows_by[row.creator] |= own
         self.forked.append({m for m in range(len(self.stakes))
                             if self.fork_in(ancestors, m)})
-        self.seen_by.append(0)
-        for earlier in bits(ancestors):
+        self.seen_by.append(own if row.creator not in self.forked[place] else 0)
+        for earlier in bits(ancestors & self.any_witness):
             if self.rows[earlier].creator not in self.forked[place]:
                 self.seen_by[earlier] |= own
         self.place_in_round(place, parents)
@@ -96,7 +97,7 @@ class Graph:
         return bool(self.ancestors[x] >> y & 1)
 
     def sees(self, x, y):
-        """Whether `x` sees `y`."""
+        """Whether `x` sees the witness `y`."""
         return bool(self.seen_by[y] >> x & 1)
 
     def strongly_sees(self, x, y):
@@ -122,6 +123,7 @@ class Graph:
         self.is_witness.append(witness)
         if witness:
             self.witnesses.setdefault(round_, []).append(x)
+            self.any_witness |= 1 << x
 
     def witnesses_of(self, round_, length):
         """The witnesses of a round among the first rows, in place order."""

@@ -19,6 +19,7 @@ class ScriptMaker:
         self.world = World(self.members)
         self.reader = ScriptReader(self.members, 0)
         self.lines = []
+        self.played = []
         self.texts = []
         self.by_member = {}
         self.labels = []
@@ -64,6 +65,7 @@ class ScriptMaker:
         line = self.reader.line(len(self.lines) + 1, text)
         self.lines.append(text)
         if line is not None:
+            self.played.append(line)
             self.texts += self.world.run([line])
 
     def node(self, name):

@@ -3,7 +3,6 @@
 A script is played as it is made, and the commands on it take that up.
 """
 
-import functools
 import pickle
 
 import program
@@ -85,23 +84,28 @@ class Nodes(dict):
 class Remembered(World):
     """A world that takes up what a maker has played."""
 
-    played = ((), [], {})
+    script, lines, texts, nodes = b"", (), [], {}
 
     @classmethod
     def remember(cls, maker, script):
         """Takes up the maker's lines, what they print and its nodes."""
-        nodes = {number: pickle.dumps(node)
-                 for number, node in maker.world.nodes.items()}
-        lines = program.read_script(script, maker.members)
-        cls.played = (lines, maker.texts, nodes)
+        cls.script, cls.lines, cls.texts = script, maker.played, maker.texts
+        cls.nodes = {number: pickle.dumps(node)
+                     for number, node in maker.world.nodes.items()}
 
     def run(self, lines):
         """As every world, but for the lines that are remembered."""
-        if lines != Remembered.played[0]:
+        if lines is not Remembered.lines:
             return super().run(lines)
-        self.nodes = Nodes(Remembered.played[2])
-        return Remembered.played[1]
+        self.nodes = Nodes(Remembered.nodes)
+        return Remembered.texts
 
 
-program.World = Remembered
-program.read_script = functools.lru_cache(2)(read_script)
+def read(data, members, workers=0):
+    """The lines of a script, or those that are remembered."""
+    if data == Remembered.script and not workers:
+        return Remembered.lines
+    return read_script(data, members, workers)
+
+
+program.World, program.read_script = Remembered, read
