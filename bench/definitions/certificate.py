@@ -16,7 +16,7 @@ def word(value, size=4):
 def certificate(node):
     """The least first rows that have the whole order, and this order."""
     whole = node.graph.own_order(len(node.rows))
-    length = 0
+    length = max((place + 1 for place, _, _ in whole), default=0)
     while node.graph.own_order(length) != whole:
         length += 1
     spellings = b"".join(row.spelling for row in node.rows[:length])

@@ -201,3 +201,12 @@ def damaged_message(rng, data):
     if change == 3:
         return grow(rng, data)
     return any_damage(rng, data)
+
+
+def hostile_message(rng, good, other):
+    """What becomes of a message beside one of the other kind, and how."""
+    how = rng.choice(["cut", "cut", "joined", "repeated", "damaged", "of the other kind"])
+    one, two = sorted(rng.randint(0, len(good)) for _ in range(2))
+    joined = rng.choice([good + good, good + other, other + good, good + other[:one]])
+    return how, {"cut": good[:one], "joined": joined, "repeated": good[:two] + good[one:],
+                 "damaged": damaged_message(rng, good), "of the other kind": other}[how]

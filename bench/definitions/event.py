@@ -4,6 +4,7 @@ Everything here is a plain function of its arguments.  An event is read field
 by field, and the first field that is wrong gives the fault.
 """
 
+import functools
 import hashlib
 from dataclasses import dataclass
 
@@ -44,6 +45,7 @@ def name_of(data):
     return hashlib.sha384(data).digest()
 
 
+@functools.lru_cache(4096)
 def mac(secret, message):
     """HMAC with SHA-512, written out; a secret has at most 128 bytes."""
     key = secret.ljust(128, b"\0")
@@ -110,6 +112,7 @@ def decode_first(data):
     return row, reader.at
 
 
+@functools.lru_cache(4096)
 def decode(data):
     """The event that the bytes spell, wholly; raises `Fault`."""
     row, length = decode_first(data)

@@ -9,12 +9,10 @@ anew each time, for the first `length` rows.
 
 def bits(mask):
     """The places in a set of rows, ascending."""
-    place = 0
     while mask:
-        if mask & 1:
-            yield place
-        mask >>= 1
-        place += 1
+        least = mask & -mask
+        yield least.bit_length() - 1
+        mask ^= least
 
 
 class Graph:
@@ -35,6 +33,7 @@ class Graph:
         self.rounds = []
         self.is_witness = []
         self.witnesses = {}
+        self.any_witness = 0
         self.votes = {}
         self.voters = {}
 
@@ -43,13 +42,12 @@ class Graph:
         return 3 * weight > 2 * self.total
 
     def fork_in(self, among, member):
-        """Whether two of the member's rows in a set are a fork."""
+        """Whether two of the member's rows in a set are a fork.
+
+        They are none where the last one descends from all of them.
+        """
         mine = among & self.rows_by[member]
-        for place in bits(mine):
-            earlier = mine & ((1 << place) - 1)
-            if earlier & ~self.self_ancestors[place]:
-                return True
-        return False
+        return mine != 0 and mine & ~self.self_ancestors[mine.bit_length() - 1] != 0
 
     def forkers(self, length=None):
         """The members that have a fork among the first rows."""
@@ -77,8 +75,8 @@ class Graph:
         self.rows_by[row.creator] |= own
         self.forked.append({m for m in range(len(self.stakes))
                             if self.fork_in(ancestors, m)})
-        self.seen_by.append(0)
-        for earlier in bits(ancestors):
+        self.seen_by.append(own if row.creator not in self.forked[place] else 0)
+        for earlier in bits(ancestors & self.any_witness):
             if self.rows[earlier].creator not in self.forked[place]:
                 self.seen_by[earlier] |= own
         self.place_in_round(place, parents)
@@ -99,7 +97,7 @@ class Graph:
         return bool(self.ancestors[x] >> y & 1)
 
     def sees(self, x, y):
-        """Whether `x` sees `y`."""
+        """Whether `x` sees the witness `y`."""
         return bool(self.seen_by[y] >> x & 1)
 
     def strongly_sees(self, x, y):
@@ -125,6 +123,7 @@ class Graph:
         self.is_witness.append(witness)
         if witness:
             self.witnesses.setdefault(round_, []).append(x)
+            self.any_witness |= 1 << x
 
     def witnesses_of(self, round_, length):
         """The witnesses of a round among the first rows, in place order."""

@@ -1,5 +1,7 @@
 """Made member files, and member files with something wrong in them."""
 
+import re
+
 LETTERS = "ABCDEFG"
 
 
@@ -73,3 +75,17 @@ def damaged_members(rng, data):
     old, new = rng.choice(changes)
     count = rng.choice([-1, 1])
     return text.replace(old, new, count).encode()
+
+
+def other_file(rng, data):
+    """Another member file, or this one with one lawful thing changed."""
+    text = data.decode()
+    tables = text.split("[[member]]\n")
+    staked = re.sub("stake = .*\n", "", text, count=rng.choice([0, 1]))
+    if "stake" not in text:
+        staked = text.replace("]]\n", f"]]\nstake = {rng.choice([2, 9, 2**32 - 1])}\n", 1)
+    return rng.choice([
+        text.replace('secret = "', 'secret = "00', rng.choice([1, -1])), staked,
+        re.sub("coin = .*\n", "", text) if "coin" in text else "coin = 3\n" + text,
+        "[[member]]\n".join(tables[:1] + tables[2:] + tables[1:2]),
+        member_file(rng).decode()]).encode()

@@ -58,8 +58,8 @@ def read_head(stream, wanted):
     return count
 
 
-def read_message(data, wanted):
-    """The names, or the events, of the one message that the bytes are."""
+def first_message(data, wanted):
+    """The names, or the events, of the first message, and its length."""
     stream = Stream(data)
     count = read_head(stream, wanted)
     if wanted == HAVE:
@@ -71,6 +71,12 @@ def read_message(data, wanted):
             raise Fault(f"flag {flag}")
         if flag == 1:
             stream.take(48)
-    if stream.at < len(data):
-        raise Fault(f"trailing {stream.at}")
+    return items, stream.at
+
+
+def read_message(data, wanted):
+    """The names, or the events, of the one message that the bytes are."""
+    items, length = first_message(data, wanted)
+    if length < len(data):
+        raise Fault(f"trailing {length}")
     return items

@@ -62,6 +62,7 @@ class Node:
         self.limit = limit
         self.graph = Graph(members.stakes, members.coin)
         self.marks = {}
+        self.ordered = (None, [])
         self.log = []
 
     @property
@@ -157,8 +158,11 @@ class Node:
             raise AssertionError("a mark is not the fame of the graph")
 
     def kept(self):
-        """The order by the published marks."""
-        return self.graph.order(self.marks, len(self.rows))
+        """The order by the published marks; both only grow."""
+        size = (len(self.rows), len(self.marks))
+        if self.ordered[0] != size:
+            self.ordered = (size, self.graph.order(self.marks, len(self.rows)))
+        return self.ordered[1]
 
     def lacking(self, names):
         """The bytes of the rows whose names are not in the set."""

@@ -121,6 +121,13 @@ class Program:
             raise Stop(3, "members: own")
         return number
 
+    def stored(self, members, own, options):
+        """The node that the journal keeps."""
+        try:
+            return Stored(self.disk(options["disk"]), members, own)
+        except Fault as fault:
+            raise Stop(8, f"journal: {fault.text}") from None
+
     def lines(self, members, options):
         """The lines of the script."""
         data = self.read(options["script"], "script")
@@ -168,10 +175,7 @@ class Program:
             events = events_of(data)
         except Fault as fault:
             raise Stop(4, fault.text) from None
-        try:
-            stored = Stored(self.disk(options["disk"]), members, own)
-        except Fault as fault:
-            raise Stop(8, f"journal: {fault.text}") from None
+        stored = self.stored(members, own, options)
         texts = kept_work(stored, events, options.get("time"))
         self.store.write(options["disk"], bytes(stored.file))
         return text_of(texts)

@@ -19,6 +19,8 @@ class ScriptMaker:
         self.world = World(self.members)
         self.reader = ScriptReader(self.members, 0)
         self.lines = []
+        self.played = []
+        self.texts = []
         self.by_member = {}
         self.labels = []
         self.clock = rng.choice([0, 0, 5, 2**63, 2**64 - 200])
@@ -28,6 +30,9 @@ class ScriptMaker:
         self.pattern = rng.choice(["any", "any", "parts", "hub", "ring", "turns"])
         self.part = {name: rng.random() < 0.5 for name in self.nodes}
         self.near = rng.choice([0.5, 0.7, 0.9, 0.97, 1])
+        self.forgers = [member.name for member in self.members.list]
+        self.weights = {}
+        self.mixed = False
         self.face = None
         self.faces_only = faces
         if faces or rng.random() < 0.4:
@@ -60,7 +65,8 @@ class ScriptMaker:
         line = self.reader.line(len(self.lines) + 1, text)
         self.lines.append(text)
         if line is not None:
-            self.world.run([line])
+            self.played.append(line)
+            self.texts += self.world.run([line])
 
     def node(self, name):
         """The node of a member's name."""
@@ -184,7 +190,9 @@ class ScriptMaker:
     def do_fork(self):
         """A forged row of a member on one of its rows, given to some nodes."""
         rng = self.rng
-        member = rng.choice(self.members.list).name
+        if not self.forgers:
+            return
+        member = rng.choice(self.forgers)
         own = self.by_member.get(member, [])
         others = [label for name, labels in self.by_member.items()
                   if name != member for label in labels]
@@ -212,9 +220,9 @@ class ScriptMaker:
     def do_wrong(self):
         """A forged row with parents that hardly fit."""
         rng = self.rng
-        if len(self.labels) < 2:
+        if len(self.labels) < 2 or not self.forgers:
             return
-        member = rng.choice(self.members.list).name
+        member = rng.choice(self.forgers)
         own = rng.choice(self.labels)
         count = rng.choice([1, 1, 2, 4])
         others = ",".join(rng.choice(self.labels) for _ in range(count))
@@ -311,6 +319,9 @@ class ScriptMaker:
         for name in nodes:
             chosen = [labels[peer] for peer in nodes
                       if peer != name and rng.random() < self.near]
+            if self.mixed:
+                rng.shuffle(chosen)
+                del chosen[rng.choice([1, 2, 3, 4, 4, 4]):]
             face = faces.get(self.part[name])
             if face and rng.random() < 0.9:
                 chosen.insert(0, face)
@@ -355,6 +366,7 @@ class ScriptMaker:
             weights = {"do_layer": 60, "do_worker": 2, "do_show": 1, "do_sync": 1}
         elif self.rng.random() < 0.4:
             weights.update(do_sync=1, do_layer=40, do_face=0, do_pull=0)
+        weights.update(self.weights)
         while self.rows() < self.most_rows and len(self.lines) < most_lines:
             word = self.rng.choices(list(weights), list(weights.values()))[0]
             getattr(self, word)()
