@@ -3,10 +3,12 @@ use Rattle.std.specs.Prelude.{◌≡◌, ℕ, List, [], Some, String, take}
 use Rattle.std.specs.Global.{Global}
 use Rattle.hg_io.specs.DiskState.{DiskState, file_of}
 use Rattle.hg_io.specs.Files.{Files}
+use Rattle.hg_io.specs.ShelfState.{ShelfState, faults_at}
+use Rattle.hg_io.specs.SinkState.{SinkState}
 use Rattle.hg_check.specs.declared.outcome.Outcome.{Outcome}
 use Rattle.hg_top.specs.declared.status.Status.{Status}
-use Rattle.hg_top.specs.Commands.{asks, work_of}
-use Rattle.hg_top.specs.Course.{Course, DiskCourse, Outside}
+use Rattle.hg_top.specs.Commands.{work_for}
+use Rattle.hg_top.specs.Course.{Course, DiskCourse, ShelfCourse, SinkCourse}
 use Rattle.hg_top.specs.Ends.{Ends}
 use Rattle.hg_top.specs.Printing.{status_code, status_line}
 
@@ -20,21 +22,45 @@ disk_run before after = record {
   same = after ≡ before;
 }
 
+-- what became of a shelf in memory that has these files
+abbrev pub shelf_run : Files → ShelfState → ShelfState → ShelfCourse
+shelf_run files before after = record {
+  holds = Some files;
+  starts_before = before.starts;
+  starts_after = after.starts;
+  faults_before = faults_at before;
+  faults_after = faults_at after;
+}
+
+-- what became of a sink in memory
+abbrev pub sink_run : SinkState → SinkState → SinkCourse
+sink_run before after = record {
+  before = Some before.bytes;
+  after = Some after.bytes;
+  faults_before = before.faults;
+  faults_after = after.faults;
+  same = after ≡ before;
+}
+
+-- what a run has around it: a shelf, standard output and a disk, all in memory
+pub record Outside : Type 0 where
+  pub shelf : ShelfState
+  pub out : SinkState
+  pub disk : DiskState
+
 -- the course of a run over these files
-abbrev pub course_over : Files → Outside → Outside → DiskState → DiskState → Course
-course_over files before after disk left =
-    record { holds = Some files; before = before; after = after; disk = disk_run disk left }
+abbrev pub course_over : Files → Outside → Outside → Course
+course_over files before after =
+    record { shelf = shelf_run files before.shelf after.shelf; out = sink_run before.out after.out; disk = disk_run before.disk after.disk }
 
 -- with these words, its name first, where these files lie, the work that they ask for may end so, and these bytes stand on
 -- standard output
 pub record MayEnd (words : List (String Global)) (files : Files) (status : Status) (written : List ℕ) : Type 0 where
   pub before : Outside
   pub after : Outside
-  pub disk : DiskState
-  pub left : DiskState
-  pub fresh : before.written ≡ Some []
-  pub ends : Ends (work_of (asks words)) (course_over files before after disk left) status
-  pub wrote : after.written ≡ Some written
+  pub fresh : before.out.bytes ≡ []
+  pub ends : Ends (work_for words) (course_over files before after) status
+  pub wrote : after.out.bytes ≡ written
 
 -- these bytes stand on standard error: the line of this status, or a front of it, where its writing failed
 abbrev pub IsFrontOfLine : Status → List ℕ → Type 0
