@@ -4,7 +4,7 @@ use Rattle.std.proofs.Math.Seq.{take-append_seam}
 use Rattle.std.proofs.lemmas.Bool.{cases_eq, cases_lt}
 use Rattle.std.proofs.lemmas.List.{length_push, length-replicate, get_or-replicate, get_or-set_same, get_or-set_other, get_or_append_left, get_or_push, get_or_past}
 use Rattle.hg_branches.specs.declared.landmarks.NextRow.{NextRow}
-use Rattle.hg_branches.specs.Landmarks.{LandmarkView, landmark_at, no_landmark, noted_once, AreNotedOn, NotesBy, IsLastOn, HoldsChains, HoldsNewest, HoldsTops, HoldsNumbers}
+use Rattle.hg_branches.specs.Landmarks.{LandmarkView, landmark_at, no_landmark, noted_once, AreFreshOn, AreNotedOn, NotesBy, IsLastOn, HoldsChains, HoldsNewest, HoldsTops, HoldsNumbers}
 
 -- a zero behind a list changes nothing that is read
 pub zero_behind : (xs : List ℕ) (i : ℕ) → get_or (xs ++ 0 ∷ []) i 0 ≡ get_or xs i 0
@@ -74,6 +74,15 @@ left_noted known count next c old new same long left noted i h on le =
     let was : (landmark_at old i).branch ≡ c = sym (same i low).1 ∙ on in
     let end_is = (same i low).0 in
     subst (λ (k : LandmarkView). noted_once count next k ≡ k) (sym (left i was)) (noted i low was (omega arith))
+
+-- and what had no descendant has none while it stands
+pub left_fresh : (known : ℕ) (next : NextRow) (c : ℕ) (old new : List LandmarkView) → ((i : ℕ) → i < length old → StandsAs (landmark_at new i) (landmark_at old i)) → length new ≡ length old →
+    ((i : ℕ) → (landmark_at old i).branch ≡ c → landmark_at new i ≡ landmark_at old i) → AreFreshOn c known next old → AreFreshOn c known next new
+left_fresh known next c old new same long left fresh i h on less =
+    let low : i < length old = omega arith in
+    let was : (landmark_at old i).branch ≡ c = sym (same i low).1 ∙ on in
+    let end_is = (same i low).0 in
+    subst (λ (k : LandmarkView). (next.end < k.none) × (next.branch < length k.firsts → next.end < slice_index k.firsts next.branch)) (sym (left i was)) (fresh i low was (omega arith))
 
 -- one more landmark, later than the others
 module _ (old : List LandmarkView) (k : LandmarkView) (chains : HoldsChains old) where

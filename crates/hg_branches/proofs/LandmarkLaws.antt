@@ -17,7 +17,7 @@ use Rattle.hg_branches.specs.declared.landmarks.NextRow.{NextRow}
 use Rattle.hg_branches.specs.Branches.{Branching, CountsAncestors, FirstDescendants, greatest_count}
 use Rattle.hg_branches.specs.Rows.{known_place}
 use Rattle.hg_branches.specs.Columns.{branching_of, count_in, next_branch, put_at, HoldsBranches, HoldsCounts, with_branch}
-use Rattle.hg_branches.specs.Landmarks.{LandmarkView, landmark_at, no_landmark, is_first, is_reached, noted, noted_once, with_stake, AreNotedOn, IsLastOn, IsWeighed, HoldsFirsts, HoldsLandmarks, HoldsTops}
+use Rattle.hg_branches.specs.Landmarks.{LandmarkView, landmark_at, no_landmark, is_first, is_reached, noted, noted_once, with_stake, AreFreshOn, AreNotedOn, IsLastOn, IsWeighed, HoldsFirsts, HoldsLandmarks, HoldsTops}
 use Rattle.hg_branches.specs.Lines.{sees_on, own_sees, others_see}
 use Rattle.hg_branches.proofs.FirstLaws.{firsts_begin, firsts_next}
 use Rattle.hg_branches.proofs.ReachedLaws.{alone_reached, one_more_reached}
@@ -229,6 +229,71 @@ noted_on n L branches makers ends held counts rows landmarks newest numbers hold
       ]
       | inr other ↦ (let long = firsts.long in let none = get_or_past k.firsts (next_branch branches ends (p ∷ ps) by) 0 (omega arith) in omega arith)
     ])
+
+-- what the self-parent has not as ancestor has no descendant yet on the next row's branch
+first_open : (n : Stakes) (L : List Link) (branches makers ends : List ℕ) → HoldsBranches n L branches makers ends → (counts : List (List ℕ)) → HoldsCounts n L branches makers counts →
+    (landmarks : List LandmarkView) (newest numbers : List ℕ) → HoldsLandmarks n L branches makers landmarks newest numbers → ((i : ℕ) → i < length landmarks → length L + 1 < (landmark_at landmarks i).none) →
+    (on : List ℕ) (by : ℕ) → FitsLink n L (link_of by on) → (row : List ℕ) (c i : ℕ) → i < length landmarks → (landmark_at landmarks i).branch ≡ c →
+    get_or (get_or (counts ++ row ∷ []) (known_place on (length L)) []) c 0 < (landmark_at landmarks i).end →
+    next_branch branches ends on by < length (landmark_at landmarks i).firsts → length L + 1 < slice_index (landmark_at landmarks i).firsts (next_branch branches ends on by)
+first_open n L branches makers ends held counts rows landmarks newest numbers holds short [] by fits row c i h is_on less inside =
+    let k : LandmarkView = landmark_at landmarks i in
+    let firsts = holds.each i h in
+    let long = firsts.long in
+    let wide = held.all in
+    let all = held.ends_all in
+    let high = short i h in
+    elim (cases_Bool (eqb (get_or ends by 0) 0)) [
+      | inl empty ↦
+          (let is : next_branch branches ends [] by ≡ by = ap (λ e. cond e by (length ends)) empty in
+          let own : by < member_count n = subst (λ j. j < member_count n) is (omega (arith, inside, long)) in
+          subst (λ j. length L + 1 < slice_index k.firsts j) (sym is) (elim (firsts.told.there by own) [
+            | inl none ↦ omega (arith, none, high)
+            | inr w ↦
+                (let end : w.0 < get_or ends by 0 = subst (λ j. w.0 < get_or ends j 0) w.2 (held.end w.0 w.1) in
+                let none : get_or ends by 0 ≡ 0 = eqb-true (get_or ends by 0) 0 empty in
+                absurd (omega arith))
+          ]))
+      | inr full ↦ (let is : next_branch branches ends [] by ≡ length ends = ap (λ e. cond e by (length ends)) full in absurd (omega (arith, is, inside, long, wide, all)))
+    ]
+first_open n L branches makers ends held counts rows landmarks newest numbers holds short (p ∷ ps) by fits row c i h is_on less inside =
+    let k : LandmarkView = landmark_at landmarks i in
+    let firsts = holds.each i h in
+    let some = firsts.some in
+    let within = firsts.inside in
+    let long = firsts.long in
+    let wide = held.all in
+    let all = held.ends_all in
+    let rows_len = rows.len in
+    let high = short i h in
+    let y : ℕ = k.end - 1 in
+    let below : p < length L = fits.earlier p (has_place_first p ps) in
+    let unknown : count_in counts p c < k.end = subst (λ (r : List ℕ). get_or r c 0 < k.end) (get_or_append_left counts (row ∷ []) [] p (omega arith)) less in
+    let branch : ℕ = get_or branches p 0 in
+    elim (cases_Bool (eqb (get_or ends branch 0) (p + 1))) [
+      | inl last ↦
+          (let is : next_branch branches ends (p ∷ ps) by ≡ branch = ap (λ c. cond c branch (length ends)) last in
+          let own : branch < member_count n = subst (λ j. j < member_count n) is (omega (arith, inside, long)) in
+          subst (λ j. length L + 1 < slice_index k.firsts j) (sym is) (elim (firsts.told.there branch own) [
+            | inl none ↦ omega (arith, none, high)
+            | inr w ↦
+                (let end : w.0 < get_or ends branch 0 = subst (λ j. w.0 < get_or ends j 0) w.2 (held.end w.0 w.1) in
+                let at : get_or ends branch 0 ≡ p + 1 = eqb-true (get_or ends branch 0) (p + 1) last in
+                let first : slice_index k.firsts branch ≤ p + 1 = (let stands = w.3 in omega arith) in
+                let seen : is_ancestor L p y ≡ true = sym (firsts.told.told p below own) ∙ le-leb (slice_index k.firsts branch) (p + 1) first in
+                let counted : y < count_in counts p (get_or branches y 0) = ltb-true y (count_in counts p (get_or branches y 0)) ((rows.row p below).told y (omega arith) ∙ seen) in
+                let same : count_in counts p (get_or branches y 0) ≡ count_in counts p c = ap (count_in counts p) (firsts.on ∙ is_on) in
+                absurd (omega arith))
+          ]))
+      | inr not_last ↦ (let is : next_branch branches ends (p ∷ ps) by ≡ length ends = ap (λ c. cond c branch (length ends)) not_last in absurd (omega (arith, is, inside, long, wide, all)))
+    ]
+
+pub fresh_on : (n : Stakes) (L : List Link) (branches makers ends : List ℕ) → HoldsBranches n L branches makers ends → (counts : List (List ℕ)) → HoldsCounts n L branches makers counts →
+    (landmarks : List LandmarkView) (newest numbers : List ℕ) → HoldsLandmarks n L branches makers landmarks newest numbers → ((i : ℕ) → i < length landmarks → length L + 1 < (landmark_at landmarks i).none) →
+    (on : List ℕ) (by : ℕ) → FitsLink n L (link_of by on) → (row : List ℕ) (stake c : ℕ) →
+    AreFreshOn c (get_or (get_or (counts ++ row ∷ []) (known_place on (length L)) []) c 0) (record { branch = next_branch branches ends on by; end = length L + 1; stake = stake }) landmarks
+fresh_on n L branches makers ends held counts rows landmarks newest numbers holds short on by fits row stake c i h is_on less =
+    (short i h, first_open n L branches makers ends held counts rows landmarks newest numbers holds short on by fits row c i h is_on less)
 
 -- the tops stay, and a new branch has none
 pub tops_noted : (old new : List LandmarkView) → ((i : ℕ) → i < length old → StandsAs (landmark_at new i) (landmark_at old i)) → length new ≡ length old → (tops : List ℕ) (b : ℕ) → HoldsTops old tops →

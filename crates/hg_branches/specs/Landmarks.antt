@@ -113,6 +113,17 @@ AreNotedOn c known count next landmarks =
 abbrev pub AreNotedBy : List ℕ → List ℕ → NextRow → List LandmarkView → ℕ → Type 0
 AreNotedBy known counts next landmarks c = AreNotedOn c (slice_index known c) (slice_index counts c) next landmarks
 
+-- the landmarks of branch c behind this end have no descendant yet on the branch of the next row
+abbrev pub AreFreshOn : ℕ → ℕ → NextRow → List LandmarkView → Type 0
+AreFreshOn c known next landmarks =
+    (i : ℕ) → i < length landmarks → (landmark_at landmarks i).branch ≡ c → known < (landmark_at landmarks i).end →
+    (next.end < (landmark_at landmarks i).none) ×
+    (next.branch < length (landmark_at landmarks i).firsts → next.end < slice_index (landmark_at landmarks i).firsts next.branch)
+
+-- the same where these are the counts of the self-parent
+abbrev pub AreFreshBy : List ℕ → NextRow → List LandmarkView → ℕ → Type 0
+AreFreshBy known next landmarks c = AreFreshOn c (slice_index known c) next landmarks
+
 -- the landmarks of branch c are noted
 abbrev pub NotesOn : ℕ → ℕ → NextRow → List LandmarkView → List LandmarkView → Type 0
 NotesOn c count next old new = (i : ℕ) → i < length old → (landmark_at old i).branch ≡ c → landmark_at new i ≡ noted_once count next (landmark_at old i)

@@ -68,22 +68,25 @@ impl Firsts {
         }
     }
 
-    /// Lowers the first descendant on branch `b` to this end, and tells whether it was later.
+    /// Lowers the first descendant on branch `b`, where there is none or a later one, to this end, and tells whether that is a
+    /// member's own. It does not read what was there, which may have left the caches.
     pub fn lower(&mut self, b: usize, end: u32) -> bool
+        requires low { end < none_of self.old }
+        requires later { b < length (firsts_of self.old) → end < slice_index (firsts_of self.old) b }
         ensures value { result ≡ nat_lt end (slice_index (firsts_of self.old) b) }
         ensures none { none_of self.new ≡ none_of self.old }
         ensures firsts { firsts_of self.new ≡ cond result (slice_set (firsts_of self.old) b end) (firsts_of self.old) }
     {
         match self {
             Firsts::Narrow(firsts) => {
-                if b < firsts.len() && end < u32::from(firsts[b]) {
+                if b < firsts.len() {
                     firsts[b] = end as u16;
                     return true;
                 }
                 false
             }
             Firsts::Wide(firsts) => {
-                if b < firsts.len() && end < firsts[b] {
+                if b < firsts.len() {
                     firsts[b] = end;
                     return true;
                 }

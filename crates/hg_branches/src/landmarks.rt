@@ -1,7 +1,7 @@
 ghost use Rattle.std.specs.Prelude.{◌≡◌, ◌≢◌, ◌<◌, ◌≤◌, ◌+◌, ◌-◌, ℕ, cond, nat_lt, not, true, length, slice_index, IfOk, OnErr, OnOk};
 ghost use Rattle.hg_model.specs.Stakes.{total};
 ghost use Rattle.hg_model.specs.Seeing.{is_supermajority};
-ghost use Rattle.hg_branches.specs.Landmarks.{landmark_at, noted_once, AreNotedBy, AreNotedOn, HoldsChains, HoldsNewest, HoldsTops, IsLastOn, IsNeverStrong, IsWeighed, LeavesBelow, LeavesFrom, NotesAll, NotesBy, NotesOn, AllWide, IsWidened, Widens};
+ghost use Rattle.hg_branches.specs.Landmarks.{landmark_at, noted_once, AreFreshBy, AreFreshOn, AreNotedBy, AreNotedOn, HoldsChains, HoldsNewest, HoldsTops, IsLastOn, IsNeverStrong, IsWeighed, LeavesBelow, LeavesFrom, NotesAll, NotesBy, NotesOn, AllWide, IsWidened, Widens};
 ghost use Rattle.hg_model.specs.Counts.{numbers_of};
 ghost use Rattle.hg_branches.specs.Firsts.{none_by};
 ghost use Rattle.hg_branches.specs.Lines.{is_strong_by_own};
@@ -95,6 +95,8 @@ impl Landmark {
 
     /// Notes that the next row has come, which counts so much of this row's branch.
     pub fn note(&mut self, count: u32, next: NextRow)
+        requires low { next.end < self.old.none }
+        requires fresh { next.branch < length self.old.firsts → next.end < slice_index self.old.firsts next.branch }
         ensures { self.new ≡ noted_once count next self.old }
     {
         if self.end <= count && self.firsts.lower(next.branch, next.end) {
@@ -173,6 +175,7 @@ pub fn note_all(
     requires newest { HoldsNewest landmarks.old newest.now }
     requires tops { HoldsTops landmarks.old tops.now.ends }
     requires noted { (c : ℕ) → AreNotedBy known.now.row counts.now.row next landmarks.old c }
+    requires fresh { (c : ℕ) → AreFreshBy known.now.row next landmarks.old c }
     ensures len { length landmarks.new ≡ length landmarks.old }
     ensures each { NotesAll counts.now.row next landmarks.old landmarks.new }
 {
@@ -198,6 +201,7 @@ fn note_own(
     requires tops { HoldsTops landmarks.old tops.now.ends }
     requires noted { (c : ℕ) → c < length (numbers_of counts) →
         AreNotedBy (numbers_of known) (numbers_of counts) next landmarks.old c }
+    requires fresh { (c : ℕ) → c < length (numbers_of counts) → AreFreshBy (numbers_of known) next landmarks.old c }
     ensures len { length landmarks.new ≡ length landmarks.old }
     ensures done { (c : ℕ) → c < length (numbers_of counts.entry) →
         NotesBy (numbers_of counts.entry) next landmarks.old landmarks.new c }
@@ -244,6 +248,7 @@ fn note_others(
     requires chains { HoldsChains landmarks.old }
     requires newest { HoldsNewest landmarks.old newest.now }
     requires noted { (c : ℕ) → counts.now.members ≤ c → AreNotedBy known.now.row counts.now.row next landmarks.old c }
+    requires fresh { (c : ℕ) → counts.now.members ≤ c → AreFreshBy known.now.row next landmarks.old c }
     ensures len { length landmarks.new ≡ length landmarks.old }
     ensures done { (c : ℕ) → counts.now.members ≤ c → NotesBy counts.now.row next landmarks.old landmarks.new c }
     ensures left { LeavesBelow counts.now.members landmarks.old landmarks.new }
@@ -269,6 +274,7 @@ fn note_more(
     requires chains { HoldsChains landmarks.old }
     requires newest { IsLastOn landmarks.old (length landmarks.old) c (slice_index newest.now c) }
     requires noted { AreNotedOn c least count next landmarks.old }
+    requires fresh { AreFreshOn c least next landmarks.old }
     ensures len { length landmarks.new ≡ length landmarks.old }
     ensures on { NotesOn c count next landmarks.old landmarks.new }
     ensures off { (i : ℕ) → (landmark_at landmarks.old i).branch ≢ c → landmark_at landmarks.new i ≡ landmark_at landmarks.old i }
@@ -292,6 +298,7 @@ fn note_branch(
     requires chains { HoldsChains landmarks.old }
     requires newest { IsLastOn landmarks.old (length landmarks.old) c (slice_index newest.now c) }
     requires noted { AreNotedOn c least count next landmarks.old }
+    requires fresh { AreFreshOn c least next landmarks.old }
     ensures len { length landmarks.new ≡ length landmarks.old }
     ensures on { NotesOn c count next landmarks.old landmarks.new }
     ensures off { (i : ℕ) → (landmark_at landmarks.old i).branch ≢ c → landmark_at landmarks.new i ≡ landmark_at landmarks.old i }

@@ -205,7 +205,9 @@ fn raise_narrow(row: &mut Vec<u16>, others: &[u16])
 {
     let both = row.len().min(others.len());
     raise_first_narrow(row, &others[..both]);
-    row.extend_from_slice(&others[both..]).unwrap();
+    if both < others.len() {
+        row.extend_from_slice(&others[both..]).unwrap();
+    }
 }
 
 /// Raises as many of the first numbers as there are others.

@@ -1,2 +1,4 @@
+pub mod Dice
 pub mod Exit
 pub mod Outcomes
+pub mod Troubles

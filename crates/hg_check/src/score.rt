@@ -1,4 +1,5 @@
 ghost use Rattle.std.specs.Prelude.{◌≡◌, ◌+◌, ◌-◌, ◌^◌, true, false, min};
+ghost use Rattle.std.specs.Process.{exit_status};
 ghost use Rattle.hg_check.specs.Exit.{exit_number};
 
 use std::io;
@@ -53,6 +54,8 @@ fn number_of<E: Drop>(played: Result<Score, E>) -> u8
 }
 
 /// How the program ends: with 0 where nothing differs, 1 where something does, 2 where it came to no end.
-pub fn exit<E: Drop>(played: Result<Score, E>) -> ExitCode {
+pub fn exit<E: Drop>(played: Result<Score, E>) -> ExitCode
+    ensures { exit_status result ≡ exit_number played }
+{
     ExitCode::from(number_of(played))
 }

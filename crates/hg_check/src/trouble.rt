@@ -1,3 +1,6 @@
+ghost use Rattle.std.specs.Prelude.{◌≡◌};
+ghost use Rattle.hg_check.specs.Troubles.{trouble_text};
+
 use hg_model::Memory;
 use std::alloc::{AllocError, AllocFailed};
 use std::io;
@@ -18,7 +21,10 @@ pub enum Trouble {
 }
 
 impl Trouble {
-    pub fn text(self) -> &'static str {
+    /// The words by which it is told.
+    pub fn text(self) -> &'static str
+        ensures { result.now ≡ trouble_text self }
+    {
         match self {
             Trouble::Broken => "broken",
             Trouble::Members => "no members",
@@ -30,24 +36,40 @@ impl Trouble {
 }
 
 impl From<AllocError> for Trouble {
+    ghost use Rattle.hg_check.specs.declared.trouble.Trouble.TheVariants as trouble;
+
+    ghost from_gives = { λ _ found. found ≡ trouble.Memory };
+
     fn from(_error: AllocError) -> Trouble {
         Trouble::Memory
     }
 }
 
 impl From<Memory> for Trouble {
+    ghost use Rattle.hg_check.specs.declared.trouble.Trouble.TheVariants as trouble;
+
+    ghost from_gives = { λ _ found. found ≡ trouble.Memory };
+
     fn from(_error: Memory) -> Trouble {
         Trouble::Memory
     }
 }
 
 impl<T: Drop> From<AllocFailed<T>> for Trouble {
+    ghost use Rattle.hg_check.specs.declared.trouble.Trouble.TheVariants as trouble;
+
+    ghost from_gives = { λ _ found. found ≡ trouble.Memory };
+
     fn from(_error: AllocFailed<T>) -> Trouble {
         Trouble::Memory
     }
 }
 
 impl From<io::Error> for Trouble {
+    ghost use Rattle.hg_check.specs.declared.trouble.Trouble.TheVariants as trouble;
+
+    ghost from_gives = { λ _ found. found ≡ trouble.Outside };
+
     fn from(_error: io::Error) -> Trouble {
         Trouble::Outside
     }

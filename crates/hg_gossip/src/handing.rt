@@ -40,6 +40,9 @@ fn event_at<V: Signer>(node: &Node<V>, place: usize) -> Result<Arc<Event>, Memor
 /// down: behind a row by the member that the taker has, its self-parent. From `usize::MAX` on there is none.
 type Marks = [usize; 128];
 
+/// For so many rows that are lacked memory is taken at once.
+const USUAL_ROWS: usize = 32;
+
 /// The self-parent of a row, or none: where to look for the row by its member that comes before it. No clause speaks of it.
 fn before<V: Signer>(taker: &Node<V>, place: usize) -> usize {
     let graph = taker.graph();
@@ -117,7 +120,7 @@ fn lacked_backwards<V: Signer, W: Signer>(
     requires { from ≤ length (node_rows peer.now) }
     ensures { IfOk result (λ events. rows_of events.items ≡ lacked_backwards taker.now peer.now from) }
 {
-    let mut events = Vec::new(alloc);
+    let mut events = Vec::with_capacity(alloc, (peer.rows() - from).min(USUAL_ROWS))?;
     let mut marks = [usize::MAX; 128];
     let mut place = peer.rows();
     'places: while from < place {

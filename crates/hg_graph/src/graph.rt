@@ -111,12 +111,16 @@ impl EventGraph {
         self.store.place_of(name)
     }
 
-    /// The place of the last row of the member's own branch, if it has this name.
+    /// The place of the last row of the member's own branch, if it has this name. Its event is looked at only where the name's
+    /// hash is the same.
     fn last_named(&self, name: &Name, member: Member) -> Option<usize>
         ensures { IfSome result (λ x. found_place self.now.graph.rows name.now ≡ Some x) }
     {
         let end = self.sight.own_end(member);
-        if end == 0 || self.store.len() < end || self.store.row(end - 1).name != *name {
+        if end == 0 || self.store.len() < end || !self.store.may_be(end - 1, name) {
+            return None;
+        }
+        if self.store.row(end - 1).name != *name {
             return None;
         }
         Some(end - 1)

@@ -66,6 +66,11 @@ impl NameIndex {
         find(&self.heads, &self.hashed, events, name)
     }
 
+    /// Whether the row at a place may have this name, by its hash. No clause speaks of it.
+    pub fn may_be(&self, x: usize, name: &Name) -> bool {
+        x < self.hashed.len() && self.hashed[x].hash == hash_of(name)
+    }
+
     /// Takes the memory of one more row. Where there are as many rows as buckets, there are twice as many buckets from then on,
     /// and all rows are linked anew by their hashes: no event is looked at.
     pub fn reserve(&mut self) -> Result<(), Memory>

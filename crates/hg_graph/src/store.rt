@@ -80,6 +80,11 @@ impl RowStore {
         self.names.place_of(&self.events, name)
     }
 
+    /// Whether the row at a place may have this name: where it may not, its event need not be looked at. No clause speaks of it.
+    pub fn may_be(&self, x: usize, name: &Name) -> bool {
+        self.names.may_be(x, name)
+    }
+
     /// Takes the memory of one more row.
     pub fn reserve(&mut self) -> Result<(), Memory>
         ensures room { OnOk result (1 ≤ self.new.room) }

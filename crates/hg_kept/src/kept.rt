@@ -10,7 +10,7 @@ ghost use Rattle.hg_kept.specs.Published.{FindsNewsOf, HasCome, Keeps, TookRow, 
 use crate::closing::close_rounds;
 use crate::marking::mark_found;
 use crate::pending::Pending;
-use hg_model::{Found, Memory, Placed, Prefix, is_of_graph};
+use hg_model::{Found, Memory, Placed, Prefix, is_of_graph, reserve_all};
 use std::alloc::Global;
 use std::marker::Model;
 
@@ -78,7 +78,7 @@ impl Kept {
         let rows = self.marks.len() + 1;
         self.marks.reserve(1)?;
         self.pending.reserve(rows)?;
-        self.order.reserve(rows.saturating_sub(self.order.len()))?;
+        reserve_all(&mut self.order, rows)?;
         Ok(())
     }
 

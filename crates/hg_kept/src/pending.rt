@@ -7,7 +7,7 @@ ghost use Rattle.hg_kept.specs.Waiting.{HasWaiting, ListsTo, none_received};
 ghost use Rattle.hg_kept.specs.Receiving.{AreLeastEnds, Receives, others_of};
 
 use crate::walking::take_below;
-use hg_model::{Memory, Placed, Prefix, Sight, is_of_graph};
+use hg_model::{Memory, Placed, Prefix, Sight, is_of_graph, reserve_all};
 use hg_order::{RoundMemory, least_counts, order_round_within, received_below};
 use std::alloc::Global;
 use std::marker::Model;
@@ -61,8 +61,8 @@ impl Pending {
         ensures more { self.old.room ≤ self.new.room }
         ensures same { self.new.waiting ≡ self.old.waiting }
     {
-        self.places.reserve(rows.saturating_sub(self.places.len()))?;
-        self.fresh.reserve(rows.saturating_sub(self.fresh.len()))?;
+        reserve_all(&mut self.places, rows)?;
+        reserve_all(&mut self.fresh, rows)?;
         // For all rows: where many have waited, one round receives them all. What is not written takes no memory.
         self.memory.reserve(rows, self.members)?;
         Ok(())

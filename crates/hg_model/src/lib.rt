@@ -36,7 +36,7 @@ mod votes;
 pub use ballot::Ballot;
 pub use counts::Counts;
 pub use items::{Bytes, Items};
-pub use memory::Memory;
+pub use memory::{Memory, reserve_all};
 pub use parents::Parents;
 pub use prefix::{Prefix, is_of_graph};
 pub use rounds::Rounds;

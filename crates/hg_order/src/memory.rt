@@ -7,7 +7,7 @@ ghost use Rattle.hg_order.specs.Timers.{unticked, HaveMedians};
 use crate::line_rows::{list_line_rows, raise_ends, sort_line_rows};
 use crate::sweep::{Lanes, sweep_rows};
 use crate::timer::{LineRow, Timer, tick_rows};
-use hg_model::{Memory, Prefix, Sight, is_of_graph};
+use hg_model::{Memory, Prefix, Sight, is_of_graph, reserve_all};
 use std::alloc::Global;
 use std::marker::Model;
 
@@ -42,9 +42,8 @@ impl RoundMemory {
         ensures room { OnOk result (rows ≤ self.new) }
         ensures more { self.old ≤ self.new }
     {
-        self.line_rows
-            .reserve(rows.saturating_sub(self.line_rows.len()))?;
-        self.timers.reserve(rows.saturating_sub(self.timers.len()))?;
+        reserve_all(&mut self.line_rows, rows)?;
+        reserve_all(&mut self.timers, rows)?;
         self.lanes.reserve(members)?;
         Ok(())
     }

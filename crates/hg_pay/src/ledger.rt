@@ -7,7 +7,7 @@ ghost use Rattle.hg_pay.specs.Account.{with_rest};
 
 use crate::book::Book;
 use hg_life::{Effect, Members};
-use hg_model::{Memory, Placed, Prefix};
+use hg_model::{Memory, Placed, Prefix, reserve_all};
 use std::alloc::Global;
 use std::marker::Model;
 
@@ -50,9 +50,7 @@ impl Ledger {
         ensures more { self.old.room ≤ self.new.room }
         ensures same { self.new ≡ record self.old { room = self.new.room } }
     {
-        self.effects
-            .reserve(events.saturating_sub(self.effects.len()))?;
-        Ok(())
+        reserve_all(&mut self.effects, events)
     }
 
     /// Does the transfers of the events of an order behind those that it has paid, one after the other. Takes no memory.

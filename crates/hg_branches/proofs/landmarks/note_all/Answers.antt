@@ -3,7 +3,7 @@ use Rattle.std.proofs.lemmas.Bool.{cases_lt}
 use Rattle.std.proofs.lemmas.List.{get_or-take}
 use Rattle.hg_model.specs.Counts.{numbers_of}
 use Rattle.hg_branches.specs.Landmarks.{landmark_at, noted_once}
-use Rattle.hg_branches.proofs.ChainLaws.{stands_noted, left_noted, chains_noted, newest_noted}
+use Rattle.hg_branches.proofs.ChainLaws.{stands_noted, left_fresh, left_noted, chains_noted, newest_noted}
 use Rattle.hg_branches.proofs.landmarks.note_all.Goals as goal
 
 pub note_others-requires-clause-chains : goal.note_others-requires-clause-chains
@@ -21,6 +21,12 @@ note_others-requires-clause-noted c = λ b past.
     let same = stands_noted (numbers_of c.own-2.result) c.args.next c.args.landmarks.now c.note_own.new.landmarks c.note_own.ensures.done c.note_own.ensures.left in
     left_noted (slice_index c.args.known.now.row b) (slice_index c.args.counts.now.row b) c.args.next b c.args.landmarks.now c.note_own.new.landmarks same c.note_own.ensures.len
     (λ i on. c.note_own.ensures.left i (omega (arith, on, past, c.own-2.ensures.len))) (c.requires.noted b)
+
+pub note_others-requires-clause-fresh : goal.note_others-requires-clause-fresh
+note_others-requires-clause-fresh c = λ b past.
+    let same = stands_noted (numbers_of c.own-2.result) c.args.next c.args.landmarks.now c.note_own.new.landmarks c.note_own.ensures.done c.note_own.ensures.left in
+    left_fresh (slice_index c.args.known.now.row b) c.args.next b c.args.landmarks.now c.note_own.new.landmarks same c.note_own.ensures.len
+    (λ i on. c.note_own.ensures.left i (omega (arith, on, past, c.own-2.ensures.len))) (c.requires.fresh b)
 
 -- a member's own branch was noted first, and any other one after it
 pub returns-clause-each : goal.returns-clause-each

@@ -14,9 +14,9 @@ use Rattle.hg_branches.specs.Columns.{HoldsBranches, room_of, next_branch, with_
 use Rattle.hg_branches.proofs.HeldLaws.{Serves, next_serves, in_reach, branches_hold, counts_hold, counts_last}
 use Rattle.hg_branches.specs.Rows.{RowView, known_place}
 use Rattle.hg_branches.specs.Firsts.{none_by}
-use Rattle.hg_branches.specs.Landmarks.{LandmarkView, landmark_at, noted, AreNotedOn, HoldsChains, HoldsNewest, HoldsTops, HoldsLandmarks}
+use Rattle.hg_branches.specs.Landmarks.{LandmarkView, landmark_at, noted, AreFreshOn, AreNotedOn, HoldsChains, HoldsNewest, HoldsTops, HoldsLandmarks}
 use Rattle.hg_branches.proofs.ChainLaws.{refilled}
-use Rattle.hg_branches.proofs.LandmarkLaws.{noted_on, landmarks_more, tops_noted}
+use Rattle.hg_branches.proofs.LandmarkLaws.{fresh_on, noted_on, landmarks_more, tops_noted}
 use Rattle.hg_branches.proofs.WidenLaws.{none_within}
 use Rattle.hg_branches.proofs.NumberLaws.{all_low}
 use Rattle.hg_branches.proofs.PutLaws.{opened_long}
@@ -146,6 +146,34 @@ note_all-requires-clause-noted c = λ i.
     (subst (λ j. AreNotedOn i (get_or known i 0) (get_or row i 0) (next j (c.len-row.result + 1)) s.landmarks.items) (sym b_is)
     (subst (λ x. AreNotedOn i (get_or known i 0) (get_or row i 0) (next (next_branch s.branches.items s.ends.items on by) (x + 1)) s.landmarks.items) (sym place)
     (noted_on s.stakes L s.branches.items s.makers.items s.ends.items held.branches s.counts.rows held.counts s.landmarks.items s.newest.items s.numbers.items held.landmarks on by fits row others stake i)))))
+
+pub note_all-requires-clause-fresh : goal.note_all-requires-clause-fresh
+note_all-requires-clause-fresh c = λ i.
+    let s = c.self.inside in
+    let held = c.self.invariant in
+    let L = s.links.items in
+    let by = c.args.creator in
+    let on = c.args.parents.now in
+    let row = c.push.ensures.0 in
+    let rows_are = c.push.ensures.1 in
+    let rows_len = held.counts.len in
+    let fits = subst (λ (g : ShapeWithRoom). FitsLink g.shape.members g.shape.links (link_of by on)) (sym c.self.view_is) c.requires.fits in
+    let b = c.branch_for-branch.result in
+    let b_is = branch_is s.branches.items s.ends.items by on c.deref.result.now b c.branch_for-branch.ensures c.deref.ensures.value in
+    let place : c.len-row.result ≡ length L = omega arith in
+    let known : List ℕ = get_or (s.counts.rows ++ row ∷ []) (known_place on (length L)) [] in
+    let known_is : c.row_of-known.result.row ≡ known = ap (λ (r : RowView). r.row) c.row_of-known.ensures
+    ∙ ap₂ (λ (rows : List (List ℕ)) (j : ℕ). get_or rows j []) rows_are (c.known_place.ensures ∙ ap (λ (x : ℕ). known_place on x) place) in
+    let ready : 1 ≤ room_of s.ready = subst (λ (g : ShapeWithRoom). 1 ≤ g.room) (sym c.self.view_is) c.requires.room in
+    let rows_room = held.rows_room in
+    let short_of : (i : ℕ) → i < length s.landmarks.items → length L + 1 < (landmark_at s.landmarks.items i).none = λ i h. (let high = held.widths i h in omega arith) in
+    let stake = c.at-stake.result in
+    let next : ℕ → ℕ → NextRow = λ b end. record { branch = b; end = end; stake = stake } in
+    subst (AreFreshOn i (get_or c.row_of-known.result.row i 0) (next b (c.len-row.result + 1))) (sym c.deref_mut.ensures.value)
+    (subst (λ (k : List ℕ). AreFreshOn i (get_or k i 0) (next b (c.len-row.result + 1)) s.landmarks.items) (sym known_is)
+    (subst (λ j. AreFreshOn i (get_or known i 0) (next j (c.len-row.result + 1)) s.landmarks.items) (sym b_is)
+    (subst (λ x. AreFreshOn i (get_or known i 0) (next (next_branch s.branches.items s.ends.items on by) (x + 1)) s.landmarks.items) (sym place)
+    (fresh_on s.stakes L s.branches.items s.makers.items s.ends.items held.branches s.counts.rows held.counts s.landmarks.items s.newest.items s.numbers.items held.landmarks short_of on by fits row stake i))))
 
 pub move_end-requires-clause-there : goal.move_end-requires-clause-there
 move_end-requires-clause-there c =
