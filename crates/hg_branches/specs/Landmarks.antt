@@ -144,6 +144,10 @@ LeavesFrom k old new = (i : ℕ) → k ≤ (landmark_at old i).branch → landma
 abbrev pub LeavesBelow : ℕ → List LandmarkView → List LandmarkView → Type 0
 LeavesBelow k old new = (i : ℕ) → (landmark_at old i).branch < k → landmark_at new i ≡ landmark_at old i
 
+-- those of other branches than c stay
+abbrev pub LeavesOthers : ℕ → List LandmarkView → List LandmarkView → Type 0
+LeavesOthers c old new = (i : ℕ) → (landmark_at old i).branch ≢ c → landmark_at new i ≡ landmark_at old i
+
 -- the lanes in which a row counts more than is known, below the top, have 1, and the others 0
 abbrev pub AreNews : List ℕ → List ℕ → List ℕ → List ℕ → Type 0
 AreNews known tops counts news =

@@ -1,5 +1,5 @@
 -- Which branches have a row that sees another
-use Rattle.std.specs.Prelude.{◌≡◌, ℕ, suc, ◌+◌, ◌-◌, Bool, not, ◌&&◌, ◌||◌, ◌==◌, nat_lt, nat_le, List, length, slice_index}
+use Rattle.std.specs.Prelude.{◌≡◌, ℕ, suc, ◌+◌, ◌-◌, ◌<◌, ◌≤◌, Bool, true, not, ◌&&◌, ◌||◌, ◌==◌, nat_lt, nat_le, List, length, slice_index}
 use Rattle.hg_model.specs.Places.{some_below}
 use Rattle.hg_model.specs.Stakes.{Stakes, stake_where, total}
 use Rattle.hg_model.specs.Links.{Link}
@@ -23,6 +23,18 @@ own_sees firsts counts m = nat_le (slice_index firsts m) (slice_index counts m)
 -- the members of whom it is have more than two thirds of the stake
 abbrev pub is_strong_by_own : Stakes → List ℕ → List ℕ → Bool
 is_strong_by_own n firsts counts = is_supermajority (total n) (stake_where n (own_sees firsts counts))
+
+-- the first descendant on the own branch of member m is counted and sees y
+abbrev pub first_sees : List Link → List ℕ → List ℕ → ℕ → ℕ → Bool
+first_sees L firsts counts y m = own_sees firsts counts m && sees L (slice_index firsts m - 1) y
+
+-- so it is of member m, or the set has it
+abbrev pub may_see : List Link → ℕ → List ℕ → List ℕ → ℕ → ℕ → Bool
+may_see L several firsts counts y m = mask_has several m || some_below (length firsts) (λ b. first_sees L firsts counts y b && b == m)
+
+-- the set has the makers of the branches beside the first so many, the members' own
+abbrev pub AreSeveral : ℕ → List ℕ → ℕ → Type 0
+AreSeveral members makers several = (b : ℕ) → members ≤ b → b < length makers → mask_has several (slice_index makers b) ≡ true
 
 -- a row counted of branch b, which is no member's own, sees y, and the first descendant on its maker's own is not counted
 abbrev pub other_sees : List Link → List ℕ → List ℕ → List ℕ → ℕ → ℕ → Bool

@@ -5,11 +5,13 @@ use Rattle.hg_ancestry.specs.Held.{HoldsForks}
 use Rattle.hg_branches.specs.declared.sight.BranchSight.TheInside.{Inside}
 use Rattle.hg_branches.specs.Columns.{HoldsBranches, HoldsCounts, room_of}
 use Rattle.hg_branches.specs.Firsts.{none_by}
+use Rattle.hg_branches.specs.Lines.{AreSeveral}
 use Rattle.hg_branches.specs.Landmarks.{landmark_at, HoldsLandmarks, HoldsTops, IsSpareLandmark, spare_room}
 
 -- each column holds what it is to hold, and has memory for a row where that was taken
 pub record HoldsBranchSight (s : Inside) : Type 0 where
   pub branches : HoldsBranches s.stakes s.links.items s.branches.items s.makers.items s.ends.items
+  pub several : AreSeveral (member_count s.stakes) s.makers.items s.several
   pub counts : HoldsCounts s.stakes s.links.items s.branches.items s.makers.items s.counts.rows
   pub counts_members : s.counts.members ≡ member_count s.stakes
   pub forks : HoldsForks s.links.items s.forked.items

@@ -1,7 +1,9 @@
-ghost use Rattle.std.specs.Prelude.{◌≡◌, ◌<◌, ◌≤◌, ◌+◌, ◌-◌, ◌^◌, ℕ, min, replicate, length, slice_index, IfOk, vec_len, vec_capacity};
+ghost use Rattle.std.specs.Prelude.{◌≡◌, ◌<◌, ◌≤◌, ◌||◌, ◌&&◌, ◌==◌, ◌+◌, ◌-◌, ◌^◌, ℕ, nat_le, min, replicate, length, slice_index, IfOk, vec_len, vec_capacity};
 ghost use Rattle.std.specs.List.{AllByRecursion};
+ghost use Rattle.hg_bits.specs.Masks.{mask_has};
 ghost use Rattle.hg_branches.specs.Columns.{next_branch, put_at, with_branch};
 
+use hg_bits::with_member;
 use hg_blocks::Blocks;
 use hg_model::{Member, Memory};
 use std::alloc::Global;
@@ -56,6 +58,18 @@ pub fn open_branch(newest: &mut Vec<u32>, branch: usize)
 {
     if branch == newest.len() {
         newest.push_reserved(0);
+    }
+}
+
+/// The members with a branch beside their own, of so many, once a row by this one stands on the branch.
+pub fn with_several(several: u128, members: usize, branch: usize, by: Member) -> u128
+    requires { by < 128 }
+    ensures { (m : ℕ) → mask_has result m ≡ (mask_has several m || (nat_le members branch && m == by)) }
+{
+    if branch < members {
+        several
+    } else {
+        with_member(several, by)
     }
 }
 

@@ -1,7 +1,7 @@
 ghost use Rattle.std.specs.Prelude.{◌≡◌, ◌≢◌, ◌<◌, ◌≤◌, ◌+◌, ◌-◌, ℕ, cond, nat_lt, not, true, length, slice_index, IfOk, OnErr, OnOk};
 ghost use Rattle.hg_model.specs.Stakes.{total};
 ghost use Rattle.hg_model.specs.Seeing.{is_supermajority};
-ghost use Rattle.hg_branches.specs.Landmarks.{landmark_at, noted_once, AreFreshBy, AreFreshOn, AreNotedBy, AreNotedOn, HoldsChains, HoldsNewest, HoldsTops, IsLastOn, IsNeverStrong, IsWeighed, LeavesBelow, LeavesFrom, NotesAll, NotesBy, NotesOn, AllWide, IsWidened, Widens};
+ghost use Rattle.hg_branches.specs.Landmarks.{landmark_at, noted_once, AreFreshBy, AreFreshOn, AreNotedBy, AreNotedOn, HoldsChains, HoldsNewest, HoldsTops, IsLastOn, IsNeverStrong, IsWeighed, LeavesBelow, LeavesFrom, LeavesOthers, NotesAll, NotesBy, NotesOn, AllWide, IsWidened, Widens};
 ghost use Rattle.hg_model.specs.Counts.{numbers_of};
 ghost use Rattle.hg_branches.specs.Firsts.{none_by};
 ghost use Rattle.hg_branches.specs.Lines.{is_strong_by_own};
@@ -277,7 +277,7 @@ fn note_more(
     requires fresh { AreFreshOn c least next landmarks.old }
     ensures len { length landmarks.new ≡ length landmarks.old }
     ensures on { NotesOn c count next landmarks.old landmarks.new }
-    ensures off { (i : ℕ) → (landmark_at landmarks.old i).branch ≢ c → landmark_at landmarks.new i ≡ landmark_at landmarks.old i }
+    ensures off { LeavesOthers c landmarks.old landmarks.new }
 {
     if least < count {
         note_branch(landmarks, newest, c, least, count, next);
@@ -301,7 +301,7 @@ fn note_branch(
     requires fresh { AreFreshOn c least next landmarks.old }
     ensures len { length landmarks.new ≡ length landmarks.old }
     ensures on { NotesOn c count next landmarks.old landmarks.new }
-    ensures off { (i : ℕ) → (landmark_at landmarks.old i).branch ≢ c → landmark_at landmarks.new i ≡ landmark_at landmarks.old i }
+    ensures off { LeavesOthers c landmarks.old landmarks.new }
 {
     let mut number = newest[c] as usize;
     'chain: while number > 0 {

@@ -5,7 +5,7 @@ ghost use Rattle.hg_model.specs.Stakes.{member_count};
 ghost use Rattle.hg_model.specs.Seeing.{sees};
 ghost use Rattle.hg_model.specs.GraphWords.{sees_in};
 ghost use Rattle.hg_bits.specs.Masks.{mask_has};
-ghost use Rattle.hg_branches.specs.Lines.{line_sees, sees_on, seen_on, AddsOther, HasOthers, is_strong_by_firsts};
+ghost use Rattle.hg_branches.specs.Lines.{line_sees, sees_on, seen_on, first_sees, may_see, AddsOther, AreSeveral, HasOthers, is_strong_by_firsts};
 
 use crate::counts::{RowCounts, number_at};
 use crate::firsts::weigh_counts;
@@ -41,11 +41,60 @@ pub fn seers(sight: &BranchSight, makers: &[Member], counts: &RowCounts, y: usiz
     mask
 }
 
+/// The members of the set, and those whose first descendant of row `y` on their own branch is counted and sees it. Where these
+/// have several branches, none but they may see it.
+#[tactic(auto, using(hg_model::proofs::PlacesLaws::some_steps))]
+pub fn may_see(
+    sight: &BranchSight,
+    several: u128,
+    counts: &RowCounts,
+    firsts: Counts<'_>,
+    y: usize,
+) -> u128
+    requires place { y < length sight.now.shape.links }
+    requires few { length (numbers_of firsts) ≤ 128 }
+    requires some { (m : ℕ) → m < length (numbers_of firsts) → 0 < slice_index (numbers_of firsts) m }
+    requires places { (b : ℕ) → slice_index counts.now.row b ≤ length sight.now.shape.links }
+    ensures { (m : ℕ) → mask_has result m ≡
+        may_see sight.now.shape.links several (numbers_of firsts.entry) counts.now.row y m }
+{
+    let mut mask = several;
+    for m in 0..firsts.len() {
+        mask = with_first(mask, sight, counts, firsts, m, y);
+    }
+    mask
+}
+
+/// The set with the member, if its first descendant of row `y` is counted and sees it.
+fn with_first(
+    mask: u128,
+    sight: &BranchSight,
+    counts: &RowCounts,
+    firsts: Counts<'_>,
+    m: usize,
+    y: usize,
+) -> u128
+    requires place { y < length sight.now.shape.links }
+    requires member { m < 128 }
+    requires some { 0 < slice_index (numbers_of firsts) m }
+    requires there { slice_index counts.now.row m ≤ length sight.now.shape.links }
+    ensures { (j : ℕ) → mask_has result j ≡
+        (mask_has mask j || (first_sees sight.now.shape.links (numbers_of firsts.entry) counts.now.row y m && m == j)) }
+{
+    let first = number_at(firsts, m);
+    if first <= counts.at(m) && sight.sees(first as usize - 1, y) {
+        return with_member(mask, m as Member);
+    }
+    mask
+}
+
 /// Whether members with more than two thirds of the stake have a branch that sees row `y`, whose first descendants are given:
-/// one comparison for each member's own branch and, where these weigh too little, a look at each other branch that is counted.
+/// one comparison for each member's own branch and, where these weigh too little and those with several branches may make
+/// up for it, a look at each other branch that is counted.
 pub fn strong_by_firsts(
     sight: &BranchSight,
     makers: &[Member],
+    several: u128,
     counts: &RowCounts,
     firsts: Counts<'_>,
     y: usize,
@@ -56,12 +105,16 @@ pub fn strong_by_firsts(
     requires all { length (numbers_of firsts) ≡ member_count sight.now.shape.members }
     requires own { length (numbers_of firsts) ≤ length makers.now }
     requires wide { length (numbers_of firsts) ≡ counts.now.members }
+    requires several { AreSeveral (length (numbers_of firsts)) makers.now several }
     ensures { result ≡ is_strong_by_firsts sight.now.shape makers.now (numbers_of firsts.entry) counts.now.row y }
 {
     let stakes = sight.stakes();
     let own = weigh_counts(stakes, counts.own(), firsts);
     if stakes.is_over(own) {
         return true;
+    }
+    if !stakes.is_over(own + stakes.weigh(several)) {
+        return false;
     }
     let beside = stakes.weigh(others(sight, makers, counts, Target { row: y, firsts }));
     stakes.is_over(own + beside)

@@ -6,7 +6,7 @@ ghost use Rattle.hg_model.specs.Stakes.{member_count};
 ghost use Rattle.hg_bits.specs.Masks.{mask_has};
 ghost use Rattle.hg_branches.specs.Firsts.{none_by};
 
-use crate::branches::{branch_for, ends_within, move_end, open_branch, zeros};
+use crate::branches::{branch_for, ends_within, move_end, open_branch, with_several, zeros};
 use crate::counts::{count_at, known_place, row_of};
 use crate::forks::forked_next;
 use crate::landmarks::{Landmark, NextRow, firsts_at, landmark_of, last_end, note_all, widen_all};
@@ -35,6 +35,8 @@ pub struct BranchSight {
     branches: Blocks<usize>,
     /// For each branch the member whose rows it has. The first branches are the members' own.
     makers: Vec<Member>,
+    /// The members with a branch beside their own. In a prefix there may be more.
+    several: u128,
     /// For each branch one more than the place of its last row, or 0. In a prefix it may be more, which tells nothing false of
     /// the rows that are there: a graph that is grown from it may open a branch more than it need.
     ends: Vec<u32>,
@@ -83,6 +85,7 @@ impl BranchSight {
             links: Blocks::new(alloc),
             branches: Blocks::new(alloc),
             makers: own_branches(alloc, members)?,
+            several: 0,
             ends: zeros(alloc, members)?,
             counts: CountTable::new(alloc, members),
             forked: Blocks::new(alloc),
@@ -186,11 +189,16 @@ impl BranchSight {
         }
         let counts = row_of(&self.counts, x);
         let member = self.creator(y);
-        if !mask_has(self.forked_below(x), member) {
-            let slot = number as usize;
-            if slot > 0 {
-                let firsts = firsts_at(&self.landmarks, slot - 1);
-                return seeing::strong_by_firsts(self, &self.makers, &counts, firsts, y);
+        let slot = number as usize;
+        if slot > 0 {
+            let firsts = firsts_at(&self.landmarks, slot - 1);
+            let several = self.several;
+            if !mask_has(self.forked_below(x), member) {
+                return seeing::strong_by_firsts(self, &self.makers, several, &counts, firsts, y);
+            }
+            let may = seeing::may_see(self, several, &counts, firsts, y);
+            if !self.stakes.over(may) {
+                return false;
             }
         }
         let seers = seeing::seers(self, &self.makers, &counts, y);
@@ -341,6 +349,7 @@ impl Growing for BranchSight {
         self.links.push(PlacedLink::of(creator, parents));
         self.branches.push(branch);
         move_end(&mut self.makers, &mut self.ends, branch, creator, end);
+        self.several = with_several(self.several, members, branch, creator);
         self.forked.push(forked);
         open_branch(&mut self.newest, branch);
         self.tops.open(branch);
@@ -355,6 +364,7 @@ impl Growing for BranchSight {
             links: self.links.cloned_prefix(len)?,
             branches: self.branches.prefix(len)?,
             makers: Vec::from_slice(self.alloc, &self.makers[..many])?,
+            several: self.several,
             ends: ends_within(self.alloc, &self.ends[..many], len as u32)?,
             counts: self.counts.prefix(self.alloc, len)?,
             forked: self.forked.prefix(len)?,

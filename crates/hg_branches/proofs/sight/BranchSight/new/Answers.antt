@@ -10,6 +10,7 @@ invariant_of-result c = record {
   branches = rw (c.in_ok-new.ensures, c.new-2.ensures, c.new-3.ensures)
       (branches_none c.args.stakes.now c.in_ok-own_branches.field-0.items c.in_ok-zeros.field-0.items c.requires c.in_ok-own_branches.ensures.len
       (ap length c.in_ok-zeros.ensures ∙ length-replicate _ 0) c.in_ok-own_branches.ensures.own);
+  several = rw c.in_ok-new.ensures (λ b past inside. (let long = c.in_ok-own_branches.ensures.len in absurd (omega (arith, long, past, inside))));
   counts = rw (c.in_ok-new.ensures, c.new-2.ensures, c.new-3.ensures, c.new-4.ensures.rows) (counts_none c.args.stakes.now c.in_ok-own_branches.field-0.items);
   forks = rw (c.new-2.ensures, c.new-5.ensures) forks_none;
   landmarks = rw (c.in_ok-new.ensures, c.new-2.ensures, c.new-3.ensures, c.new-6.ensures.items, c.new-8.ensures.items)

@@ -1,4 +1,4 @@
-use Rattle.std.proofs.Common.{◌≡◌, ◌<◌, ◌≤◌, ◌+◌, ◌^◌, ◌∙◌, ℕ, sym, ap, ap₂, subst, List, ◌++◌, ◌∷◌, [], length, get_or, nat_le, false, inl, inr, arith}
+use Rattle.std.proofs.Common.{◌≡◌, ◌<◌, ◌≤◌, ◌+◌, ◌^◌, ◌∙◌, ℕ, sym, ap, ap₂, subst, List, ◌++◌, ◌∷◌, [], length, get_or, nat_le, eqb, ◌||◌, ◌&&◌, false, inl, inr, arith}
 use Rattle.std.proofs.lemmas.Bool.{true≢false, cases_lt, le-leb, lt-ltb}
 use Rattle.std.proofs.lemmas.List.{length_push, get_or_push}
 use Rattle.std.specs.List.{AllByRecursion}
@@ -21,6 +21,7 @@ use Rattle.hg_branches.proofs.WidenLaws.{none_within}
 use Rattle.hg_branches.proofs.NumberLaws.{all_low}
 use Rattle.hg_branches.proofs.PutLaws.{opened_long}
 use Rattle.hg_branches.proofs.NextForkLaws.{forks_told}
+use Rattle.hg_branches.proofs.SeveralLaws.{several_more}
 use Rattle.hg_branches.proofs.TakeLaws.{forks_more}
 use Rattle.hg_branches.proofs.sight.BranchSightGrowing.extend.Goals as goal
 use Rattle.hg_branches.proofs.sight.BranchSightGrowing.extend.Goals.{then-members-len, else-members-len}
@@ -205,6 +206,13 @@ open-requires-clause-there c =
     let all = c.self.invariant.tops_all in
     omega arith
 
+pub with_several-requires : goal.with_several-requires
+with_several-requires c =
+    let fits = subst (λ (g : ShapeWithRoom). FitsLink g.shape.members g.shape.links (link_of c.args.creator c.args.parents.now)) (sym c.self.view_is) c.requires.fits in
+    let member = fits.member in
+    let few = c.self.invariant.branches.few in
+    omega arith
+
 pub of-requires-clause-few : goal.of-requires-clause-few
 of-requires-clause-few c =
     let fits = subst (λ (g : ShapeWithRoom). FitsLink g.shape.members g.shape.links (link_of c.args.creator c.args.parents.now)) (sym c.self.view_is) c.requires.fits in
@@ -273,6 +281,9 @@ invariant_of-self c =
     record {
       branches = rw (c.push-2.ensures, c.push-3.ensures, makers_are, ends_are, c.of.ensures)
           (branches_hold s.stakes L s.branches.items s.makers.items s.ends.items held.branches link fits b serves short);
+      several = rw makers_are (several_more (member_count s.stakes) by s.makers.items b s.several c.with_several.result
+          (reach s.stakes L s.branches.items s.makers.items s.ends.items held.branches on by fits b b_is) held.several
+          (λ m. c.with_several.ensures m ∙ ap (λ (k : ℕ). mask_has s.several m || (nat_le k b && eqb m by)) c.len-members.ensures.value));
       counts = rw (c.push-2.ensures, c.push-3.ensures, makers_are, c.of.ensures, rows_are)
           (counts_hold s.stakes L s.branches.items s.makers.items s.ends.items held.branches link fits b serves s.counts.rows row held.counts wide end others);
       counts_members = c.push.ensures.2 ∙ held.counts_members;

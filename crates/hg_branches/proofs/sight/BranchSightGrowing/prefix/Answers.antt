@@ -2,6 +2,7 @@ use Rattle.std.proofs.Common.{◌≡◌, ◌<◌, ◌≤◌, ◌∙◌, ◌+◌,
 use Rattle.std.proofs.lemmas.List.{length-take-le, length-replicate, get_or-take}
 use Rattle.hg_model.specs.Stakes.{member_count}
 use Rattle.hg_model.specs.Shape.{ShapeWithRoom}
+use Rattle.hg_branches.proofs.SeveralLaws.{several_take}
 use Rattle.hg_branches.proofs.TakeLaws.{branches_take, counts_take, forks_take}
 use Rattle.hg_branches.proofs.LandmarkLaws.{landmarks_none}
 use Rattle.hg_branches.proofs.sight.BranchSightGrowing.prefix.Goals as goal
@@ -30,6 +31,7 @@ invariant_of-result c =
     omega arith in
     record {
       branches = rw (c.in_ok-copy.ensures, c.in_ok-cloned_prefix.ensures.items, c.in_ok-prefix.ensures.items, makers) (branches_take s.stakes s.links.items s.branches.items s.makers.items s.ends.items held.branches len many le is_many c.in_ok-ends_within.field-0.items ends_len end);
+      several = rw (c.in_ok-copy.ensures, makers) (several_take (member_count s.stakes) many s.makers.items s.several (omega arith) held.several);
       counts = rw (c.in_ok-copy.ensures, c.in_ok-cloned_prefix.ensures.items, c.in_ok-prefix.ensures.items, makers, c.in_ok-prefix-2.ensures.rows) (counts_take s.stakes s.links.items s.branches.items s.makers.items s.ends.items held.branches len many le is_many s.counts.rows held.counts);
       forks = rw (c.in_ok-cloned_prefix.ensures.items, c.in_ok-prefix-3.ensures.items) (forks_take s.stakes s.links.items s.branches.items s.makers.items s.ends.items held.branches len many le is_many s.forked.items held.forks);
       landmarks = rw (c.in_ok-copy.ensures, c.in_ok-cloned_prefix.ensures.items, c.in_ok-prefix.ensures.items, makers, c.new.ensures.items, c.new-3.ensures.items)
