@@ -1,5 +1,5 @@
 -- Rows of numbers in blocks and a tail, as one list
-use Rattle.std.specs.Prelude.{ℕ, ◌≡◌, ◌≤◌, ◌+◌, ◌-◌, ◌*◌, List, [], ◌∷◌, ◌++◌, length, min}
+use Rattle.std.specs.Prelude.{ℕ, ◌≡◌, ◌<◌, ◌≤◌, ◌+◌, ◌-◌, ◌*◌, List, [], ◌∷◌, ◌++◌, length, min, slice_index_or}
 use Rattle.std.specs.List.{flat_map, AllByRecursion}
 use Rattle.std.specs.declared.sync.Arc.{Arc}
 use Rattle.std.specs.Global.{Vec}
@@ -9,6 +9,10 @@ pub record RowsWithRoom (T : Type 0) : Type 0 where
   pub width : ℕ
   pub numbers : List T
   pub room : ℕ
+
+-- of rows of so many numbers each, one after the other, these are the numbers of row x
+abbrev pub IsRow : {T : Type 0} → ℕ → List T → ℕ → List T → Type 0
+IsRow {T} width numbers x row = (b : ℕ) (d : T) → b < width → slice_index_or row b d ≡ slice_index_or numbers (x * width + b) d
 
 -- the numbers of a block that is shared
 abbrev pub numbers_of : {T A : Type 0} → Arc (Vec T) A → List T

@@ -1,6 +1,6 @@
-ghost use Rattle.std.specs.Prelude.{◌≡◌, ◌<◌, ◌≤◌, ◌+◌, ◌*◌, ℕ, [], ◌++◌, length, take, drop, slice_index_or, IfOk, OnOk, OnErr};
+ghost use Rattle.std.specs.Prelude.{◌≡◌, ◌<◌, ◌≤◌, ◌+◌, ◌*◌, [], ◌++◌, length, take, drop, IfOk, OnOk, OnErr};
 ghost use Rattle.std.specs.List.{AllByRecursion};
-ghost use Rattle.hg_blocks.specs.Rows.{HasRows, SealsRows, joined_rows};
+ghost use Rattle.hg_blocks.specs.Rows.{HasRows, IsRow, SealsRows, joined_rows};
 
 use hg_model::Memory;
 use std::alloc::Global;
@@ -51,7 +51,7 @@ impl<T: Copy> RowBlocks<T> {
     /// Row `x`.
     pub fn row(&self, x: usize) -> &[T]
         requires { x * self.now.width + self.now.width ≤ length self.now.numbers }
-        ensures value { (b : ℕ) (d : T) → b < self.now.width → slice_index_or result.now b d ≡ slice_index_or self.now.numbers (x * self.now.width + b) d }
+        ensures value { IsRow self.now.width self.now.numbers x result.now }
         ensures len { length result.now ≡ self.now.width }
     {
         row_in(
