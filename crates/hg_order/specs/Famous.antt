@@ -1,5 +1,5 @@
 -- The unique famous witnesses of one round, and what they tell of a row. SWIRLDS-TR-2016-01, section 4, procedure findOrder
-use Rattle.std.specs.Prelude.{ℕ, ◌≡◌, ◌<◌, Bool, true, not, ◌&&◌, ◌==◌, List, length, fold, replicate, map, unwrap_or, suc}
+use Rattle.std.specs.Prelude.{ℕ, ◌≡◌, ◌<◌, Bool, true, not, ◌&&◌, ◌==◌, List, length, count_by, filter, fold, replicate, map, unwrap_or, suc}
 use Rattle.std.specs.List.{list_any, list_all}
 use Rattle.hg_model.specs.declared.row.Row.{Row}
 use Rattle.hg_model.specs.Places.{least_below}
@@ -31,6 +31,13 @@ is_rival_to L marks y z = is_yes (mark_at marks z) && creator L z == creator L y
 -- among these witnesses y is famous, and no other by its creator is
 abbrev pub is_lone : List Link → Marks → List ℕ → ℕ → Bool
 is_lone L marks witnesses y = is_yes (mark_at marks y) && not (list_any (is_rival_to L marks y) witnesses)
+
+-- those of these witnesses, and how many there are
+abbrev pub lone_of : List Link → Marks → List ℕ → List ℕ
+lone_of L marks witnesses = filter (is_lone L marks witnesses) witnesses
+
+abbrev pub count_lone : List Link → Marks → List ℕ → ℕ
+count_lone L marks witnesses = count_by (is_lone L marks witnesses) witnesses
 
 -- the first of the line of w that has x as ancestor
 unfoldable pub first_holder : List Link → ℕ → ℕ → ℕ

@@ -1,8 +1,10 @@
 -- Lines of self-ancestors as lists of line rows, one behind the other
-use Rattle.std.specs.Prelude.{ℕ, ◌≡◌, ◌<◌, ◌≤◌, ◌+◌, ◌-◌, true, List, [], ◌∷◌, length, take, slice_index, slice_index_or, Option, Some, None}
+use Rattle.std.specs.Prelude.{ℕ, ◌≡◌, ◌<◌, ◌≤◌, ◌+◌, ◌-◌, Bool, true, List, [], ◌∷◌, length, take, slice_index, slice_index_or, Option, Some, None}
 use Rattle.hg_model.specs.declared.row.Row.{Row}
 use Rattle.hg_model.specs.Links.{Link, self_parent}
 use Rattle.hg_model.specs.Ancestry.{is_self_ancestor}
+use Rattle.hg_model.specs.Shape.{Shape}
+use Rattle.hg_model.specs.Prefix.{Graph}
 use Rattle.hg_model.specs.Order.{time_at}
 use Rattle.hg_order.specs.declared.timer.LineRow.{LineRow}
 
@@ -45,6 +47,13 @@ pub record AreLinesOf (G : List Row) (L : List Link) (places : List ℕ) (low : 
   pub line : (i : ℕ) → i < length places → HasLine L low lines (slice_index starts i) (slice_index starts (i + 1))
   pub top : (i : ℕ) → i < length places → place_at lines (slice_index starts i) ≡ slice_index places i
   pub times : HaveTimes G lines
+
+-- if there was room, the line of w is added, and the lines of these rows are there
+abbrev pub ListsLine : Bool → Graph → Shape → ℕ → ℕ → List LineRow → List LineRow → Type 0
+ListsLine listed g s w low old new = listed ≡ true → AddsLine g.rows s.links w low old new
+
+abbrev pub ListsLines : Bool → Graph → Shape → List ℕ → ℕ → List LineRow → List ℕ → Type 0
+ListsLines listed g s places low lines starts = listed ≡ true → AreLinesOf g.rows s.links places low lines starts
 
 -- the line of w so far, down to z
 pub record WalksLine (G : List Row) (L : List Link) (w : ℕ) (old now : List LineRow) (z : ℕ) : Type 0 where

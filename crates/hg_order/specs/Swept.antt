@@ -7,7 +7,9 @@ use Rattle.hg_model.specs.Links.{Link, creator}
 use Rattle.hg_model.specs.Ancestry.{is_ancestor}
 use Rattle.hg_order.specs.declared.timer.Timer.{Timer}
 use Rattle.hg_order.specs.declared.timer.LineRow.{LineRow}
-use Rattle.hg_order.specs.declared.sweep.Lane.{Lane}
+use Rattle.hg_order.specs.declared.timer.Wanted.{Wanted}
+use Rattle.hg_order.specs.declared.lane.Lane.{Lane}
+use Rattle.hg_order.specs.declared.lane.Course.{Course}
 use Rattle.hg_order.specs.declared.sweep.Lanes.{Lanes}
 use Rattle.hg_model.specs.Shape.{Shape}
 use Rattle.hg_model.specs.Counts.{CountsMembersIn}
@@ -113,6 +115,9 @@ AreLanes L last low top next above = (m : ℕ) → IsLane L last low top m (slic
 abbrev pub AreLanesOver : Shape → ℕ → Lanes → List Timer → Type 0
 AreLanesOver s low lanes ts = AreLanes s.links (lines_from low lanes.last.items) low (low + length ts) (ends_from low lanes.next) lanes.above
 
+abbrev pub AreLastOver : Shape → ℕ → Lanes → Type 0
+AreLastOver s low lanes = AreLast s.links low (lines_from low lanes.last.items)
+
 -- of so many members: no line has a row, and no lane
 pub record AreClear (members : ℕ) (lanes : Lanes) : Type 0 where
   pub last : lanes.last.items ≡ replicate members (replicate 128 0)
@@ -140,10 +145,14 @@ pub record IsLaneFrom (L : List Link) (last : List (List ℕ)) (low : ℕ) (ts :
   pub to : next ≤ low + length ts
   pub counted : above ≡ reached L last (next - 1)
 
--- the same of the member by whom the row is
-abbrev pub AdvancesLane : Shape → List (List ℕ) → ℕ → ℕ → ℕ → ℕ → Lane → Lane → List Timer → List Timer → Type 0
-AdvancesLane s last bound low need when start lane old new =
-    IsAdvanced s.links bound last low need when (creator s.links (start.next - 1)) start.next lane.next lane.above old new
+-- the same of a lane, by the counts of the lines from the course's `low` on
+abbrev pub StartsLane : Shape → List (List ℕ) → Course → Lane → List Timer → Type 0
+StartsLane s last course start ts = IsLaneFrom s.links (lines_from course.low last) course.low ts start.next start.above
+
+-- the lane went on like this: that of the member by whom its row was
+abbrev pub AdvancesLane : Shape → List (List ℕ) → Course → Lane → Lane → List Timer → List Timer → Type 0
+AdvancesLane s last course start lane old new =
+    IsAdvanced s.links course.bound (lines_from course.low last) course.low course.need course.time (creator s.links (start.next - 1)) start.next lane.next lane.above old new
 
 -- the same of all lanes
 pub record AreAdvanced (L : List Link) (least : List ℕ) (last : List (List ℕ)) (low need when : ℕ) (start next above : List ℕ) (old new : List Timer) : Type 0 where
@@ -154,9 +163,9 @@ pub record AreAdvanced (L : List Link) (least : List ℕ) (last : List (List ℕ
       slice_index start (creator L (low + k)) ≤ low + k + 1 → IsPast (slice_index next (creator L (low + k))) (low + k) → IsTimed L last need when (low + k) (timer_at new k)
   pub long : length new ≡ length old
 
-abbrev pub AdvancesLanes : Shape → List ℕ → ℕ → ℕ → ℕ → Lanes → Lanes → List Timer → List Timer → Type 0
-AdvancesLanes s least low need when start lanes old new =
-    AreAdvanced s.links least (lines_from low lanes.last.items) low need when (ends_from low start.next) (ends_from low lanes.next) lanes.above old new
+abbrev pub AdvancesLanes : Shape → Wanted → ℕ → Lanes → Lanes → List Timer → List Timer → Type 0
+AdvancesLanes s wanted when start lanes old new =
+    AreAdvanced s.links wanted.least (lines_from wanted.low lanes.last.items) wanted.low wanted.need when (ends_from wanted.low start.next) (ends_from wanted.low lanes.next) lanes.above old new
 
 abbrev pub AreFew : ℕ → List ℕ → Type 0
 AreFew need above = (m : ℕ) → slice_index above m < need
@@ -178,16 +187,17 @@ pub record IsSwept (L : List Link) (least : List ℕ) (low need : ℕ) (line_row
   pub done : (k : ℕ) → IsBelow L least (low + k) → low + k < low + length ts → IsPast (slice_index next (creator L (low + k))) (low + k) →
       timer_of L (low + k) (unticked need) line_rows ≡ record { left = 0; time = (timer_at ts k).time }
 
-abbrev pub IsSweptOver : Shape → List ℕ → ℕ → ℕ → List LineRow → Lanes → List Timer → Type 0
-IsSweptOver s least low need line_rows lanes ts = IsSwept s.links least low need line_rows (lines_from low lanes.last.items) (ends_from low lanes.next) lanes.above ts
+abbrev pub IsSweptOver : Shape → Wanted → List LineRow → Lanes → List Timer → Type 0
+IsSweptOver s wanted line_rows lanes ts =
+    IsSwept s.links wanted.least wanted.low wanted.need line_rows (lines_from wanted.low lanes.last.items) (ends_from wanted.low lanes.next) lanes.above ts
 
-abbrev pub IsSweptBySome : Shape → List ℕ → ℕ → ℕ → Lanes → List Timer → Type 0
-IsSweptBySome s least low need lanes ts = (line_rows : List LineRow) × IsSweptOver s least low need line_rows lanes ts
+abbrev pub IsSweptBySome : Shape → Wanted → Lanes → List Timer → Type 0
+IsSweptBySome s wanted lanes ts = (line_rows : List LineRow) × IsSweptOver s wanted line_rows lanes ts
 
 -- if it is swept, one line row more keeps it so
-abbrev pub Sweeps : Bool → Shape → List ℕ → ℕ → ℕ → LineRow → Lanes → Lanes → List Timer → List Timer → Type 0
-Sweeps swept s least low need h old_lanes lanes old new =
-    swept ≡ true → (line_rows : List LineRow) → IsSweptOver s least low need line_rows old_lanes old → IsSweptOver s least low need (line_rows ++ h ∷ []) lanes new
+abbrev pub Sweeps : Bool → Shape → Wanted → LineRow → Lanes → Lanes → List Timer → List Timer → Type 0
+Sweeps swept s wanted h old_lanes lanes old new =
+    swept ≡ true → (line_rows : List LineRow) → IsSweptOver s wanted line_rows old_lanes old → IsSweptOver s wanted (line_rows ++ h ∷ []) lanes new
 
 -- the rows below these numbers stand below `top`
 abbrev pub ReachTo : List Link → List ℕ → ℕ → Type 0
@@ -199,8 +209,8 @@ AreTimed L least low need line_rows ts = (k : ℕ) → low + k < length L → Is
     (timer_at ts k).time ≡ (timer_of L (low + k) (unticked need) line_rows).time
 
 -- if they are found, the timers have them
-abbrev pub FindsTimes : Bool → Shape → List ℕ → ℕ → ℕ → List LineRow → List Timer → Type 0
-FindsTimes found s least low need line_rows ts = found ≡ true → AreTimed s.links least low need line_rows ts
+abbrev pub FindsTimes : Bool → Shape → Wanted → List LineRow → List Timer → Type 0
+FindsTimes found s wanted line_rows ts = found ≡ true → AreTimed s.links wanted.least wanted.low wanted.need line_rows ts
 
 -- none of the first lanes is left at a row below its bound
 abbrev pub ArePast : ℕ → List ℕ → List ℕ → Type 0

@@ -9,6 +9,7 @@ use Rattle.hg_model.specs.declared.row.Placed.{Placed}
 use Rattle.hg_model.specs.Places.{list_below}
 use Rattle.hg_order.specs.declared.timer.Timer.{Timer}
 use Rattle.hg_order.specs.declared.timer.LineRow.{LineRow}
+use Rattle.hg_order.specs.declared.timer.Wanted.{Wanted}
 use Rattle.hg_model.specs.Links.{Link, creator, self_parent}
 use Rattle.hg_model.specs.Ancestry.{is_ancestor, is_self_ancestor}
 use Rattle.hg_model.specs.declared.counts.Counts.{Counts}
@@ -82,12 +83,16 @@ abbrev pub TicksBetween : Shape → List ℕ → List ℕ → List ℕ → ℕ �
 TicksBetween s before counts least low time old new = AreTicked low time (is_between s.links before counts least) old new
 
 -- the same, where the numbers are counts of either width
-abbrev pub TicksAt : Shape → Counts → Counts → List ℕ → ℕ → ℕ → List Timer → List Timer → Type 0
-TicksAt s before counts least low time old new = TicksBetween s (numbers_of before) (numbers_of counts) least low time old new
+abbrev pub TicksAt : Shape → Counts → Counts → Wanted → ℕ → List Timer → List Timer → Type 0
+TicksAt s before counts wanted time old new = TicksBetween s (numbers_of before) (numbers_of counts) wanted.least wanted.low time old new
+
+-- if its ancestors are counted, this line row ticks
+abbrev pub TicksBy : Bool → Shape → Wanted → LineRow → List Timer → List Timer → Type 0
+TicksBy counted s wanted h old new = counted ≡ true → AreTickedBy s.links wanted.least wanted.low h old new
 
 -- if all ancestors are counted, these line rows tick
-abbrev pub TicksAll : Bool → Shape → List ℕ → ℕ → List LineRow → List Timer → List Timer → Type 0
-TicksAll counted s least low line_rows old new = counted ≡ true → AreTickedByAll s.links least low line_rows old new
+abbrev pub TicksAll : Bool → Shape → Wanted → List LineRow → List Timer → List Timer → Type 0
+TicksAll counted s wanted line_rows old new = counted ≡ true → AreTickedByAll s.links wanted.least wanted.low line_rows old new
 
 -- there is a timer for each row below these numbers
 abbrev pub ReachAll : List Link → List ℕ → ℕ → List Timer → Type 0

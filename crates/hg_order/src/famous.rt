@@ -1,9 +1,9 @@
-ghost use Rattle.std.specs.Prelude.{◌≡◌, ◌<◌, ◌≤◌, All, length, take, drop, filter, count_by};
+ghost use Rattle.std.specs.Prelude.{◌≡◌, ◌<◌, ◌≤◌, All, length, take, drop};
 ghost use Rattle.std.specs.List.{list_any};
 ghost use Rattle.hg_model.specs.Stakes.{member_count};
 ghost use Rattle.hg_model.specs.Fame.{is_yes, mark_at};
 ghost use Rattle.hg_model.specs.GraphWords.{famous_of};
-ghost use Rattle.hg_order.specs.Famous.{AreFamous, is_lone, is_rival_to};
+ghost use Rattle.hg_order.specs.Famous.{AreFamous, count_lone, is_lone, is_rival_to, lone_of};
 
 use hg_model::{Prefix, Sight, is_of_graph};
 
@@ -30,9 +30,9 @@ fn keep_lone<S: Sight>(
     out: &mut [usize],
 ) -> usize
     requires places { All (λ y. y < length (S.shape sight.now).links) witnesses.now }
-    requires fits { count_by (is_lone (S.shape sight.now).links marks.now witnesses.now) witnesses.now ≤ length out.old }
-    ensures count { result ≡ count_by (is_lone (S.shape sight.now).links marks.now witnesses.now) witnesses.now }
-    ensures front { take result out.new ≡ filter (is_lone (S.shape sight.now).links marks.now witnesses.now) witnesses.now }
+    requires fits { count_lone (S.shape sight.now).links marks.now witnesses.now ≤ length out.old }
+    ensures count { result ≡ count_lone (S.shape sight.now).links marks.now witnesses.now }
+    ensures front { take result out.new ≡ lone_of (S.shape sight.now).links marks.now witnesses.now }
     ensures rest { drop result out.new ≡ drop result out.old }
 {
     let mut count = 0;

@@ -21,6 +21,7 @@
 #![tactic(auto)]
 
 mod famous;
+mod lane;
 mod least;
 mod line_rows;
 mod lines;

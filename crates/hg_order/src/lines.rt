@@ -4,7 +4,7 @@ ghost use Rattle.hg_model.specs.GraphWords.{IsShapedIn};
 ghost use Rattle.hg_model.specs.Order.{median, time_at};
 ghost use Rattle.hg_model.specs.Prefix.{links_of};
 ghost use Rattle.hg_order.specs.Famous.{AreFamous, IsBelowAll, all_have, first_holder, times_of};
-ghost use Rattle.hg_order.specs.Lined.{place_at, AddsLine, AreLinesOf, HasLine, HaveTimes, IsNextFrom};
+ghost use Rattle.hg_order.specs.Lined.{place_at, AreLinesOf, HasLine, HaveTimes, IsNextFrom, ListsLine, ListsLines};
 ghost use Rattle.hg_order.specs.Timers.{line_row_at};
 
 use crate::time::median_of;
@@ -44,7 +44,7 @@ fn push_row<P: Prefix>(p: &P, z: usize, lines: &mut Vec<LineRow>) -> bool
 /// room.
 fn list_line<P: Prefix>(p: &P, w: usize, low: usize, lines: &mut Vec<LineRow>) -> bool
     requires { w < length (P.shape p.now).links }
-    ensures line { result ≡ true → AddsLine (P.graph p.now).rows (P.shape p.now).links w low lines.old.items lines.new.items }
+    ensures line { ListsLine result (P.graph p.now) (P.shape p.now) w low lines.old.items lines.new.items }
     ensures room { vec_capacity lines.new ≡ vec_capacity lines.old }
 {
     is_of_graph(p);
@@ -74,7 +74,7 @@ pub fn list_lines<P: Prefix>(
     requires none { lines.old.items ≡ [] }
     requires zero { slice_index starts.old 0 ≡ 0 }
     requires wide { length places.now < length starts.old }
-    ensures lines { result ≡ true → AreLinesOf (P.graph p.now).rows (P.shape p.now).links places.now low lines.new.items starts.new }
+    ensures lines { ListsLines result (P.graph p.now) (P.shape p.now) places.now low lines.new.items starts.new }
     ensures room { vec_capacity lines.new ≡ vec_capacity lines.old }
 {
     for (i, w) in places.iter().enumerate() {

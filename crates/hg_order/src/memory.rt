@@ -1,4 +1,4 @@
-ghost use Rattle.std.specs.Prelude.{◌≡◌, ◌<◌, ◌≤◌, ◌+◌, true, All, length, replicate, slice_index, OnOk, vec_capacity};
+ghost use Rattle.std.specs.Prelude.{◌≡◌, ◌<◌, ◌≤◌, ◌+◌, ◌/◌, true, All, length, replicate, slice_index, OnOk, vec_capacity};
 ghost use Rattle.hg_order.specs.Famous.{AreFamous};
 ghost use Rattle.hg_order.specs.Counted.{AreShared, EndAtRows};
 ghost use Rattle.hg_order.specs.Swept.{FindsTimes, ReachTo};
@@ -6,7 +6,7 @@ ghost use Rattle.hg_order.specs.Timers.{unticked, HaveMedians};
 
 use crate::line_rows::{list_line_rows, raise_ends, sort_line_rows};
 use crate::sweep::{Lanes, sweep_rows};
-use crate::timer::{LineRow, Timer, tick_rows};
+use crate::timer::{LineRow, Timer, Wanted, tick_rows};
 use hg_model::{Memory, Prefix, Sight, is_of_graph, reserve_all};
 use std::alloc::Global;
 use std::marker::Model;
@@ -76,64 +76,61 @@ fn set_timers(timers: &mut Vec<Timer>, count: usize, need: u32)
     }
 }
 
-/// Finds the times that these line rows leave of all rows below the numbers, of so many from `low` on: by a sweep, and
-/// where it cannot by timers. It tells whether it could.
+/// Finds the times that these line rows leave of the wanted rows, of so many from the lowest on: by a sweep, and where
+/// it cannot by timers. It tells whether it could.
 fn find_times<S: Sight>(
     sight: &S,
     line_rows: &[LineRow],
-    least: &[u32; 128],
-    low: usize,
+    wanted: &Wanted,
     rows: usize,
-    need: u16,
     lanes: &mut Lanes,
     timers: &mut Vec<Timer>,
 ) -> bool
     requires places { All (λ h. h.place < length (S.shape sight.now).links) line_rows.now }
-    requires last { EndAtRows (S.shape sight.now).members (S.shape sight.now).links least.now }
-    requires inside { low + rows ≤ length (S.shape sight.now).links }
-    requires reach { ReachTo (S.shape sight.now).links least.now (low + rows) }
-    requires some { 0 < need }
+    requires last { EndAtRows (S.shape sight.now).members (S.shape sight.now).links wanted.now.least }
+    requires inside { wanted.now.low + rows ≤ length (S.shape sight.now).links }
+    requires reach { ReachTo (S.shape sight.now).links wanted.now.least (wanted.now.low + rows) }
+    requires some { 0 < wanted.now.need }
     requires room { rows ≤ vec_capacity timers.old }
-    ensures times { FindsTimes result (S.shape sight.now) least.now low need line_rows.now timers.new.items }
+    ensures times { FindsTimes result (S.shape sight.now) wanted.now line_rows.now timers.new.items }
     ensures long { result ≡ true → length timers.new.items ≡ rows }
     ensures room { vec_capacity timers.new ≡ vec_capacity timers.old }
 {
-    set_timers(timers, rows, u32::from(need));
-    if sweep_rows(sight, line_rows, least, low, need, lanes, timers) {
+    set_timers(timers, rows, u32::from(wanted.need));
+    if sweep_rows(sight, line_rows, wanted, lanes, timers) {
         return true;
     }
-    set_timers(timers, rows, u32::from(need));
-    tick_rows(sight, line_rows, least, low, timers)
+    set_timers(timers, rows, u32::from(wanted.need));
+    tick_rows(sight, line_rows, wanted, timers)
 }
 
-/// Counts the consensus timestamps of all rows from `low` on that these unique famous witnesses have as ancestor; tells
+/// Counts the consensus timestamps of the wanted rows, all that these unique famous witnesses have as ancestor; tells
 /// whether it could: their ancestors are counted, and there is room for the rows up to the last of the witnesses.
 pub fn count_times<P: Prefix>(
     p: &P,
     famous: &[usize],
-    least: &[u32; 128],
-    low: usize,
+    wanted: &Wanted,
     line_rows: &mut Vec<LineRow>,
     lanes: &mut Lanes,
     timers: &mut Vec<Timer>,
 ) -> bool
     requires famous { AreFamous (P.graph p.now) famous.now }
     requires some { 0 < length famous.now }
-    requires least { AreShared (P.graph p.now) famous.now least.now }
-    requires low { low ≤ slice_index famous.now 0 }
-    ensures medians { result ≡ true → HaveMedians (P.graph p.now) famous.now low timers.new.items }
+    requires least { AreShared (P.graph p.now) famous.now wanted.now.least }
+    requires low { wanted.now.low ≤ slice_index famous.now 0 }
+    requires need { wanted.now.need ≡ (length famous.now + 1) / 2 }
+    ensures medians { result ≡ true → HaveMedians (P.graph p.now) famous.now wanted.now.low timers.new.items }
     ensures line_rows_room { vec_capacity line_rows.new ≡ vec_capacity line_rows.old }
     ensures timers_room { vec_capacity timers.new ≡ vec_capacity timers.old }
 {
     is_of_graph(p);
     let mut ends = [0; 128];
     let end = raise_ends(p, famous, &mut ends);
-    if line_rows.capacity().min(timers.capacity()) < end - low {
+    if line_rows.capacity().min(timers.capacity()) < end - wanted.low {
         return false;
     }
     line_rows.clear();
-    list_line_rows(p, &ends, low, end, line_rows);
+    list_line_rows(p, &ends, wanted.low, end, line_rows);
     sort_line_rows(line_rows);
-    let need = (famous.len() as u16 + 1) / 2;
-    find_times(p, line_rows, least, low, end - low, need, lanes, timers)
+    find_times(p, line_rows, wanted, end - wanted.low, lanes, timers)
 }

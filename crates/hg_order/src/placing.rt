@@ -9,8 +9,7 @@ use crate::least::least_counts;
 use crate::lines::{list_lines, median_of_lines};
 use crate::memory::{RoundMemory, count_times, lowest};
 use crate::order::{is_wide, place_rows};
-use crate::sweep::Lanes;
-use crate::timer::{LineRow, Timer};
+use crate::timer::{LineRow, Timer, Wanted};
 use hg_model::{Placed, Prefix, is_of_graph};
 
 /// The rows at the places `fresh`, with the times of their timers.
@@ -46,9 +45,7 @@ fn place_by_counts<P: Prefix>(
     famous: &[usize],
     round: u32,
     fresh: &[u32],
-    line_rows: &mut Vec<LineRow>,
-    lanes: &mut Lanes,
-    timers: &mut Vec<Timer>,
+    memory: &mut RoundMemory,
     out: &mut [Placed],
 ) -> bool
     requires famous { AreFamous (P.graph p.now) famous.now }
@@ -57,17 +54,26 @@ fn place_by_counts<P: Prefix>(
     requires same { length out.old ≡ length fresh.now }
     ensures placed { result ≡ true → out.new ≡ map (placed_below (P.graph p.now) famous.now round) fresh.now }
     ensures wide { result ≡ true → All (IsWide (P.graph p.now).rows) fresh.now }
-    ensures line_rows_room { vec_capacity line_rows.new ≡ vec_capacity line_rows.old }
-    ensures timers_room { vec_capacity timers.new ≡ vec_capacity timers.old }
+    ensures room { memory.new ≡ memory.old }
 {
+    is_of_graph(p);
     let Some(least) = least_counts(p, famous) else {
         return false;
     };
     let low = lowest(fresh, famous[0]);
-    if !count_times(p, famous, &least, low, line_rows, lanes, timers) {
+    let need = (famous.len() as u16 + 1) / 2;
+    let wanted = Wanted { least, low, need };
+    if !count_times(
+        p,
+        famous,
+        &wanted,
+        &mut memory.line_rows,
+        &mut memory.lanes,
+        &mut memory.timers,
+    ) {
         return false;
     }
-    place_timed(p, round, low, timers, fresh, out);
+    place_timed(p, round, low, &memory.timers, fresh, out);
     true
 }
 
@@ -126,16 +132,8 @@ pub fn place_within<P: Prefix>(
     ensures room { memory.new ≡ memory.old }
 {
     if !famous.is_empty()
-        && (place_by_counts(
-            p,
-            famous,
-            round,
-            fresh,
-            &mut memory.line_rows,
-            &mut memory.lanes,
-            &mut memory.timers,
-            out,
-        ) || place_by_lines(p, famous, round, fresh, &mut memory.line_rows, out))
+        && (place_by_counts(p, famous, round, fresh, memory, out)
+            || place_by_lines(p, famous, round, fresh, &mut memory.line_rows, out))
     {
         return;
     }

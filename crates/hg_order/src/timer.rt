@@ -2,7 +2,7 @@ ghost use Rattle.std.specs.Prelude.{◌≡◌, ◌<◌, ◌≤◌, ◌+◌, ℕ,
 ghost use Rattle.hg_model.specs.Counts.{numbers_of};
 ghost use Rattle.hg_model.specs.GraphWords.{IsShapedIn};
 ghost use Rattle.hg_order.specs.Counted.{AreLines, EndAtRows, EndsBefore};
-ghost use Rattle.hg_order.specs.Timers.{ticked, is_in_line_below, AreEnds, AreTicked, AreTickedBy, ReachAll, ReachesTop, TicksAll, TicksAt};
+ghost use Rattle.hg_order.specs.Timers.{ticked, is_in_line_below, AreEnds, AreTicked, ReachAll, ReachesTop, TicksAll, TicksAt, TicksBy};
 
 use hg_model::{Counts, Member, Sight, is_shaped};
 
@@ -19,6 +19,15 @@ pub struct LineRow {
 pub struct Timer {
     pub left: u32,
     pub time: u64,
+}
+
+/// The rows whose times are to be found: those from `low` on that stand below the number of their creator in `least`.
+/// Such a row has the time at which `need` lines first have it as ancestor.
+#[derive(Clone, Copy)]
+pub struct Wanted {
+    pub least: [u32; 128],
+    pub low: usize,
+    pub need: u16,
 }
 
 /// The timer with one time more.
@@ -73,8 +82,7 @@ fn tick_between<S: Sight>(
     sight: &S,
     before: Counts<'_>,
     counts: Counts<'_>,
-    least: &[u32; 128],
-    low: usize,
+    wanted: &Wanted,
     time: u64,
     timers: &mut [Timer],
 )
@@ -82,15 +90,15 @@ fn tick_between<S: Sight>(
     requires lines { AreLines (S.shape sight.now).links }
     requires few { length (numbers_of counts) ≤ 128 }
     requires before { length (numbers_of counts) ≤ length (numbers_of before) }
-    requires ends { AreEnds (S.shape sight.now).links (numbers_of counts) least.now }
-    requires reach { ReachesTop (numbers_of counts) least.now (low + length timers.old) }
-    ensures { TicksAt (S.shape sight.now) before.entry counts.entry least.now low time timers.old timers.new }
+    requires ends { AreEnds (S.shape sight.now).links (numbers_of counts) wanted.now.least }
+    requires reach { ReachesTop (numbers_of counts) wanted.now.least (wanted.now.low + length timers.old) }
+    ensures { TicksAt (S.shape sight.now) before.entry counts.entry wanted.now time timers.old timers.new }
 {
     for m in 0..counts.len() {
         let member = m as Member;
-        let top = counts.at(member).min(least[m] as usize);
-        let bottom = low.max(before.at(member));
-        tick_line(sight, bottom, top, low, time, timers);
+        let top = counts.at(member).min(wanted.least[m] as usize);
+        let bottom = wanted.low.max(before.at(member));
+        tick_line(sight, bottom, top, wanted.low, time, timers);
     }
 }
 
@@ -103,17 +111,11 @@ fn no_counts() -> [u16; 128]
 
 /// One line row ticks at the rows that it has as ancestor and its self-parent has not; tells whether their ancestors are
 /// counted.
-fn tick_row<S: Sight>(
-    sight: &S,
-    line_row: LineRow,
-    least: &[u32; 128],
-    low: usize,
-    timers: &mut [Timer],
-) -> bool
+fn tick_row<S: Sight>(sight: &S, line_row: LineRow, wanted: &Wanted, timers: &mut [Timer]) -> bool
     requires place { line_row.place < length (S.shape sight.now).links }
-    requires last { EndAtRows (S.shape sight.now).members (S.shape sight.now).links least.now }
-    requires reach { ReachAll (S.shape sight.now).links least.now low timers.old }
-    ensures { result ≡ true → AreTickedBy (S.shape sight.now).links least.now low line_row timers.old timers.new }
+    requires last { EndAtRows (S.shape sight.now).members (S.shape sight.now).links wanted.now.least }
+    requires reach { ReachAll (S.shape sight.now).links wanted.now.least wanted.now.low timers.old }
+    ensures { TicksBy result (S.shape sight.now) wanted.now line_row timers.old timers.new }
 {
     is_shaped(sight);
     let Some(counts) = sight.counts(line_row.place) else {
@@ -124,8 +126,7 @@ fn tick_row<S: Sight>(
             sight,
             Counts::Narrow(&no_counts()),
             counts,
-            least,
-            low,
+            wanted,
             line_row.time,
             timers,
         ),
@@ -133,7 +134,7 @@ fn tick_row<S: Sight>(
             let Some(before) = sight.counts(parent) else {
                 return false;
             };
-            tick_between(sight, before, counts, least, low, line_row.time, timers);
+            tick_between(sight, before, counts, wanted, line_row.time, timers);
         }
     }
     true
@@ -143,17 +144,16 @@ fn tick_row<S: Sight>(
 fn tick_slice<S: Sight>(
     sight: &S,
     line_rows: &[LineRow],
-    least: &[u32; 128],
-    low: usize,
+    wanted: &Wanted,
     timers: &mut [Timer],
 ) -> bool
     requires places { All (λ h. h.place < length (S.shape sight.now).links) line_rows.now }
-    requires last { EndAtRows (S.shape sight.now).members (S.shape sight.now).links least.now }
-    requires reach { ReachAll (S.shape sight.now).links least.now low timers.old }
-    ensures { TicksAll result (S.shape sight.now) least.now low line_rows.now timers.old timers.new }
+    requires last { EndAtRows (S.shape sight.now).members (S.shape sight.now).links wanted.now.least }
+    requires reach { ReachAll (S.shape sight.now).links wanted.now.least wanted.now.low timers.old }
+    ensures { TicksAll result (S.shape sight.now) wanted.now line_rows.now timers.old timers.new }
 {
     for line_row in line_rows {
-        if !tick_row(sight, *line_row, least, low, timers) {
+        if !tick_row(sight, *line_row, wanted, timers) {
             return false;
         }
     }
@@ -164,15 +164,14 @@ fn tick_slice<S: Sight>(
 pub fn tick_rows<S: Sight>(
     sight: &S,
     line_rows: &[LineRow],
-    least: &[u32; 128],
-    low: usize,
+    wanted: &Wanted,
     timers: &mut Vec<Timer>,
 ) -> bool
     requires places { All (λ h. h.place < length (S.shape sight.now).links) line_rows.now }
-    requires last { EndAtRows (S.shape sight.now).members (S.shape sight.now).links least.now }
-    requires reach { ReachAll (S.shape sight.now).links least.now low timers.old.items }
-    ensures ticked { TicksAll result (S.shape sight.now) least.now low line_rows.now timers.old.items timers.new.items }
+    requires last { EndAtRows (S.shape sight.now).members (S.shape sight.now).links wanted.now.least }
+    requires reach { ReachAll (S.shape sight.now).links wanted.now.least wanted.now.low timers.old.items }
+    ensures ticked { TicksAll result (S.shape sight.now) wanted.now line_rows.now timers.old.items timers.new.items }
     ensures room { vec_capacity timers.new ≡ vec_capacity timers.old }
 {
-    tick_slice(sight, line_rows, least, low, timers)
+    tick_slice(sight, line_rows, wanted, timers)
 }

@@ -10,11 +10,11 @@ pub loop-line_row-init : goal.loop-line_row-init
 loop-line_row-init g c =
     let clear = c.requires.clear in
     let n = (g.S.Sight.shape c.args.sight.now).members in
-    let reach = reach_same _ _ c.args.low _ c.link_rows.new.timers c.link_rows.ensures.long c.requires.reach in
+    let reach = reach_same _ _ c.args.wanted.now.low _ c.link_rows.new.timers c.link_rows.ensures.long c.requires.reach in
     let zeros : List ℕ = replicate 128 0 in
-    rw (clear.last, clear.above, no_lines_from c.args.low (member_count n) 128) (record {
-      swept = swept_none _ c.args.least.now c.args.low c.args.need (ends_from c.args.low c.link_rows.new.next) c.link_rows.new.timers reach c.link_rows.ensures.linked c.link_rows.ensures.first c.requires.some (member_count n);
-      last = last_none _ c.args.low (member_count n);
+    rw (clear.last, clear.above, no_lines_from c.args.wanted.now.low (member_count n) 128) (record {
+      swept = swept_none _ c.args.wanted.now.least c.args.wanted.now.low c.args.wanted.now.need (ends_from c.args.wanted.now.low c.link_rows.new.next) c.link_rows.new.timers reach c.link_rows.ensures.linked c.link_rows.ensures.first c.requires.some (member_count n);
+      last = last_none _ c.args.wanted.now.low (member_count n);
       members = length-replicate (member_count n) zeros;
       long = c.link_rows.ensures.long;
     })

@@ -2,7 +2,7 @@ use Rattle.std.proofs.Common.{◌≡◌, ◌+◌, ◌-◌, ◌<◌, ◌≤◌, a
 use Rattle.hg_order.proofs.BoundLaws.{no_number}
 use Rattle.hg_order.proofs.FromLaws.{from_within, read_from}
 use Rattle.hg_order.proofs.SweepLaws.{next_none, firsts_from, linked_from}
-use Rattle.hg_order.proofs.sweep.link_rows.Goals as goal
+use Rattle.hg_order.proofs.lane.link_rows.Goals as goal
 
 pub loop-x-init : goal.loop-x-init
 loop-x-init g c = record {

@@ -2,7 +2,7 @@ use Rattle.std.proofs.Common.{◌≡◌, ◌<◌, ◌≤◌, ◌+◌, ℕ, lengt
 use Rattle.hg_model.specs.Links.{creator}
 use Rattle.hg_order.specs.Timers.{timer_at}
 use Rattle.hg_order.specs.Swept.{IsNextFrom, ends_from}
-use Rattle.hg_order.proofs.sweep.link_rows.Given as goal
+use Rattle.hg_order.proofs.lane.link_rows.Given as goal
 
 abbrev pub invariant-loop-x : goal.invariant-loop-x
 invariant-loop-x g l = let L = (g.S.Sight.shape l.sight).links in record {

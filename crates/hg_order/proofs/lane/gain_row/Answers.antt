@@ -1,6 +1,6 @@
 use Rattle.std.proofs.Common.{arith}
 use Rattle.hg_order.proofs.FromLaws.{near_from}
-use Rattle.hg_order.proofs.sweep.gain_row.Goals as goal
+use Rattle.hg_order.proofs.lane.gain_row.Goals as goal
 
 pub gain_wide-requires-clause-near : goal.gain_wide-requires-clause-near
 gain_wide-requires-clause-near g c = λ m _. near_from _ _ c.is_shaped.ensures.shaped c.args.x c.args.low _ (rw c.in-Wide.is at c.in-Some.ensures) (omega (arith, c.saturating_sub.ensures, c.if-saturating_sub.false)) m

@@ -2,7 +2,7 @@ use Rattle.std.proofs.Common.{◌+◌, ◌-◌, ◌∙◌, refl, arith}
 use Rattle.std.proofs.lemmas.Bool.{le-ltb, lt-ltb}
 use Rattle.hg_order.proofs.FromLaws.{from_some}
 use Rattle.hg_order.proofs.LineLaws.{self_parent_before}
-use Rattle.hg_order.proofs.sweep.parent_end.Goals as goal
+use Rattle.hg_order.proofs.lane.parent_end.Goals as goal
 
 pub overflow_add-result : goal.overflow_add-result
 overflow_add-result g c =

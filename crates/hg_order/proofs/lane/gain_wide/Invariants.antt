@@ -1,6 +1,6 @@
 use Rattle.std.proofs.Common.{◌≡◌, ◌<◌, ◌≤◌, ◌+◌, ◌-◌, ℕ, cond, length, slice_index}
 use Rattle.hg_order.specs.Swept.{is_next_gained}
-use Rattle.hg_order.proofs.sweep.gain_narrow.Given as goal
+use Rattle.hg_order.proofs.lane.gain_wide.Given as goal
 
 abbrev pub invariant-loop-m : goal.invariant-loop-m
 invariant-loop-m l = record {

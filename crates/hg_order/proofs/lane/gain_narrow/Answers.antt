@@ -3,7 +3,7 @@ use Rattle.std.proofs.lemmas.Bool.{cases_eq}
 use Rattle.std.proofs.lemmas.List.{get_or-set_same, get_or-set_other}
 use Rattle.hg_order.specs.Swept.{is_next_gained}
 use Rattle.hg_order.proofs.FromLaws.{short_from}
-use Rattle.hg_order.proofs.sweep.gain_narrow.Goals as goal
+use Rattle.hg_order.proofs.lane.gain_narrow.Goals as goal
 
 pub loop-m-preserved : goal.loop-m-preserved
 loop-m-preserved c =
