@@ -8,4 +8,4 @@ mod PartLaws
 mod WholeLaws
 mod FrontLaws
 mod WriteLaws
-pub mod WantLaws
+mod WantLaws
