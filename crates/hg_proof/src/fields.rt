@@ -12,7 +12,7 @@ use hg_model::Placed;
 pub(crate) const MAGIC: [u8; 4] = *b"HGP1";
 
 /// The greatest number of rows of a certificate: as many as a graph holds.
-pub const MOST_ROWS: usize = 1_048_576;
+pub const CERTIFICATE_ROWS: usize = 1_048_576;
 
 /// That the form breaks where these bytes begin, which are left of so many.
 pub(crate) fn breaks_at(size: usize, left: &[u8]) -> Why
@@ -71,7 +71,7 @@ pub(crate) fn count_part(bytes: &[u8], size: usize) -> Result<(u32, &[u8]), Why>
     ensures { Reads (λ part. (part.0, part.1.now)) result (count_part size bytes.now) }
 {
     let (count, rest) = u32_part(bytes, size)?;
-    if count as usize > MOST_ROWS {
+    if count as usize > CERTIFICATE_ROWS {
         return Err(breaks_at(size, bytes));
     }
     Ok((count, rest))

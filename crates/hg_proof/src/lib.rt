@@ -31,7 +31,7 @@ mod why;
 mod writing;
 
 pub use checking::check;
-pub use fields::MOST_ROWS;
+pub use fields::CERTIFICATE_ROWS;
 pub use filling::empty_graph;
 pub use laws::{certificates_are_judged, certificates_are_safe};
 pub use proving::certificate;
