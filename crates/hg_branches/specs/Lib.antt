@@ -1,5 +1,6 @@
 pub mod Branches
 pub mod Columns
+pub mod FirstSeers
 pub mod Firsts
 pub mod Landmarks
 pub mod Lines

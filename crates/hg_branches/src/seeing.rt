@@ -5,7 +5,8 @@ ghost use Rattle.hg_model.specs.Stakes.{member_count};
 ghost use Rattle.hg_model.specs.Seeing.{sees};
 ghost use Rattle.hg_model.specs.GraphWords.{sees_in};
 ghost use Rattle.hg_bits.specs.Masks.{mask_has};
-ghost use Rattle.hg_branches.specs.Lines.{line_sees, sees_on, seen_on, first_sees, may_see, AddsOther, AreSeveral, HasOthers, is_strong_by_firsts};
+ghost use Rattle.hg_branches.specs.FirstSeers.{AddsFirst};
+ghost use Rattle.hg_branches.specs.Lines.{line_sees, sees_on, seen_on, may_see, AddsOther, AreSeveral, HasOthers, is_strong_by_firsts};
 
 use crate::counts::{RowCounts, number_at};
 use crate::firsts::weigh_counts;
@@ -41,8 +42,8 @@ pub fn seers(sight: &BranchSight, makers: &[Member], counts: &RowCounts, y: usiz
     mask
 }
 
-/// The members of the set, and those whose first descendant of row `y` on their own branch is counted and sees it. Where these
-/// have several branches, none but they may see it.
+/// The members of the set, and those whose first descendant of row `y` on their own branch is counted and sees it. Where all
+/// members with several branches are in the set, no others have a branch that sees the row.
 #[tactic(auto, using(hg_model::proofs::PlacesLaws::some_steps))]
 pub fn may_see(
     sight: &BranchSight,
@@ -78,8 +79,7 @@ fn with_first(
     requires member { m < 128 }
     requires some { 0 < slice_index (numbers_of firsts) m }
     requires there { slice_index counts.now.row m ≤ length sight.now.shape.links }
-    ensures { (j : ℕ) → mask_has result j ≡
-        (mask_has mask j || (first_sees sight.now.shape.links (numbers_of firsts.entry) counts.now.row y m && m == j)) }
+    ensures { AddsFirst sight.now.shape.links (numbers_of firsts.entry) counts.now.row y m mask result }
 {
     let first = number_at(firsts, m);
     if first <= counts.at(m) && sight.sees(first as usize - 1, y) {

@@ -91,6 +91,7 @@ invariant_of-self c =
     (c.begin.ensures.before ∙ (before ∙ ap (slice_index s.newest.items) (sym branch_is))) in
     record {
       branches = held.branches;
+      several = held.several;
       counts = held.counts;
       forks = held.forks;
       landmarks = subst (λ (items : List LandmarkView). HoldsLandmarks n L branches makers items (slice_set s.newest.items branch c.len-number.result) (slice_set s.numbers.items y c.len-number.result)) (sym c.push_reserved.ensures.items)

@@ -56,6 +56,7 @@ invariant_of-self-in_err-widen_all c =
     let numbers = c.in_ok-reserve-9.ensures.items in
     record {
       branches = rw (links, branches, makers, ends) held.branches;
+      several = rw makers held.several;
       counts = rw (links, branches, makers, counts) held.counts;
       counts_members = members ∙ held.counts_members;
       forks = rw (links, forked) held.forks;
@@ -99,6 +100,7 @@ invariant_of-self-2 c =
     let numbers = c.in_ok-reserve-9.ensures.items in
     record {
       branches = rw (links, branches, makers, ends) held.branches;
+      several = rw makers held.several;
       counts = rw (links, branches, makers, counts) held.counts;
       counts_members = members ∙ held.counts_members;
       forks = rw (links, forked) held.forks;

@@ -206,8 +206,8 @@ open-requires-clause-there c =
     let all = c.self.invariant.tops_all in
     omega arith
 
-pub with_several-requires : goal.with_several-requires
-with_several-requires c =
+pub with_several-self-inside-requires : goal.with_several-self-inside-requires
+with_several-self-inside-requires c =
     let fits = subst (λ (g : ShapeWithRoom). FitsLink g.shape.members g.shape.links (link_of c.args.creator c.args.parents.now)) (sym c.self.view_is) c.requires.fits in
     let member = fits.member in
     let few = c.self.invariant.branches.few in
@@ -281,9 +281,9 @@ invariant_of-self c =
     record {
       branches = rw (c.push-2.ensures, c.push-3.ensures, makers_are, ends_are, c.of.ensures)
           (branches_hold s.stakes L s.branches.items s.makers.items s.ends.items held.branches link fits b serves short);
-      several = rw makers_are (several_more (member_count s.stakes) by s.makers.items b s.several c.with_several.result
+      several = rw makers_are (several_more (member_count s.stakes) by s.makers.items b s.several c.with_several-self-inside.result
           (reach s.stakes L s.branches.items s.makers.items s.ends.items held.branches on by fits b b_is) held.several
-          (λ m. c.with_several.ensures m ∙ ap (λ (k : ℕ). mask_has s.several m || (nat_le k b && eqb m by)) c.len-members.ensures.value));
+          (λ m. c.with_several-self-inside.ensures m ∙ ap (λ (k : ℕ). mask_has s.several m || (nat_le k b && eqb m by)) c.len-members.ensures.value));
       counts = rw (c.push-2.ensures, c.push-3.ensures, makers_are, c.of.ensures, rows_are)
           (counts_hold s.stakes L s.branches.items s.makers.items s.ends.items held.branches link fits b serves s.counts.rows row held.counts wide end others);
       counts_members = c.push.ensures.2 ∙ held.counts_members;
