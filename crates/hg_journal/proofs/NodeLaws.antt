@@ -1,5 +1,5 @@
 -- What a record does to a node.
-use Rattle.std.proofs.Common.{◌≡◌, ℕ, ◌+◌, ◌^◌, ◌<◌, ◌≤◌, Bool, true, false, nat_lt, nat_eq, if◌then◌else◌, List, [], ◌∷◌, length, Option, Some, None, refl, sym, ◌∙◌, ap, ap₂, arith, length-append}
+use Rattle.std.proofs.Common.{◌≡◌, ℕ, ◌+◌, ◌^◌, ◌<◌, ◌≤◌, Bool, true, false, nat_lt, nat_eq, if◌then◌else◌, List, [], ◌∷◌, length, drop, Option, Some, None, refl, sym, ◌∙◌, ap, ap₂, arith, length-append}
 use Rattle.std.specs.Prelude.{◌&&◌, nat_le, option_and_then}
 use Rattle.std.proofs.lemmas.Bool.{and_from}
 use Rattle.std.specs.Int.{w32, from_be_bytes, to_be_bytes}
@@ -19,7 +19,7 @@ use Rattle.hg_node.specs.Restore.{restore_changes}
 use Rattle.hg_node.specs.Replay.{StoredChange, grown_by, may_mark, replay_one}
 use Rattle.hg_node.specs.Replay.StoredChange.{StoredTook, StoredMade, StoredMarked}
 use Rattle.hg_node.proofs.FewLaws.{changes_are_few, spellings_are_short}
-use Rattle.hg_journal.specs.Journal.{change_in, marked_body, marked_in, next_node}
+use Rattle.hg_journal.specs.Journal.{CanMark, change_in, marked_body, marked_in, next_node}
 
 -- ---- how much there may be
 
@@ -102,6 +102,19 @@ no_rows v len k m few = and_fails _ (nat_lt k m) (let no : nat_le len (length (n
 pub no_share : {K : Type 0} (v : NodeView K) (len k m : ℕ) → m ≤ k → may_mark v len k m ≡ false
 no_share v len k m high = and_fails_then (nat_le len (length (node_rows v))) _ (let no : nat_lt k m ≡ false = grind (arith, nat_tests) in no)
 
+twelve : (n : ℕ) → nat_eq n 12 ≡ true → n ≡ 12
+twelve n same = grind (arith, nat_tests)
+
+-- what is read of a body fits, and so does what the body tells
+marks_fit : (t : Bool) (a b c len k m rows : ℕ) → (if t then Some (StoredMarked a b c) else None) ≡ Some (StoredMarked len k m) → len ≤ rows → k < m →
+    (t ≡ true) × (a ≤ rows) × (b < c)
+marks_fit true a b c len k m rows is within lawful =
+    let first : a ≡ len = cc in
+    let second : b ≡ k = cc in
+    let third : c ≡ m = cc in
+    (refl, omega arith, omega arith)
+marks_fit false a b c len k m rows is within lawful = absurd cc
+
 module _ {K : Type 0} (accepts : K → Accepts) (v : NodeView K) where
   module _ (w : NodeView K) (before after : ℕ) (had : before ≡ length v.history) (has : after ≡ length w.history) where
     -- where there are more changes than before, they made this node of it
@@ -157,6 +170,11 @@ module _ {K : Type 0} (accepts : K → Accepts) (v : NodeView K) where
   unfolding replay_one
   marked_unfit body len k m is unfit =
       marked_some body len k m is ∙ ap (λ (t : Bool). if t then grown_by v (publish_changes v len (record { k = k; «of» = m })) else None) unfit
+
+  pub can_mark : (body : List ℕ) (len k m : ℕ) → marked_in body ≡ Some (StoredMarked len k m) → len ≤ length (node_rows v) → k < m → CanMark v body
+  can_mark body len k m is within lawful =
+      let fit = marks_fit (nat_eq (length body) 12) (from_be_bytes w32 body) (from_be_bytes w32 (drop 4 body)) (from_be_bytes w32 (drop 8 body)) len k m (length (node_rows v)) is within lawful in
+      (twelve (length body) fit.0, fit.1, fit.2)
 
   pub marked_body_in : (len k m : ℕ) → len < 2 ^ 32 → k < 2 ^ 32 → m < 2 ^ 32 → marked_in (marked_body len k m) ≡ Some (StoredMarked len k m)
   marked_body_in len k m a b c =

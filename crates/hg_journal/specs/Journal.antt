@@ -1,10 +1,10 @@
 -- The journal of a node: what its records tell, and the node that comes again from the bytes of a file.
-use Rattle.std.specs.Prelude.{◌≡◌, ◌⊎◌, ℕ, nat_eq, Bool, List, ◌++◌, length, drop, codes, Option, Some, None, option_and_then, if◌then◌else◌}
+use Rattle.std.specs.Prelude.{◌≡◌, ◌⊎◌, ℕ, ◌<◌, ◌≤◌, nat_eq, Bool, List, ◌++◌, length, drop, codes, Option, Some, None, option_and_then, if◌then◌else◌}
 use Rattle.std.specs.Int.{w16, w32, from_be_bytes, to_be_bytes}
 use Rattle.std.specs.Option.{ForSome}
 use Rattle.hg_io.specs.FileView.{FileView}
 use Rattle.hg_model.specs.Stakes.{member_count}
-use Rattle.hg_life.specs.NodeView.{NodeView, Start}
+use Rattle.hg_life.specs.NodeView.{NodeView, Start, node_rows}
 use Rattle.hg_life.specs.Signing.{Accepts}
 use Rattle.hg_node.specs.Replay.{StoredChange, new_node, replay_one}
 use Rattle.hg_node.specs.Replay.StoredChange.{StoredTook, StoredMade, StoredMarked}
@@ -25,6 +25,12 @@ marked_in body =
     if nat_eq (length body) 12
     then Some (StoredMarked (from_be_bytes w32 body) (from_be_bytes w32 (drop 4 body)) (from_be_bytes w32 (drop 8 body)))
     else None
+
+-- it tells marks in rows that are there, by a share that there is
+abbrev pub CanMark : {K : Type 0} → NodeView K → List ℕ → Type 0
+CanMark v body =
+    (length body ≡ 12) × (from_be_bytes w32 body ≤ length (node_rows v))
+    × (from_be_bytes w32 (drop 4 body) < from_be_bytes w32 (drop 8 body))
 
 -- what a record of this kind tells: an event that was taken, one that was made, or marks
 abbrev pub change_in : ℕ → List ℕ → Option StoredChange

@@ -1,8 +1,8 @@
-ghost use Rattle.std.specs.Prelude.{◌≡◌, ◌≤◌, IfOk, MatchOption, None, Some, length};
+ghost use Rattle.std.specs.Prelude.{◌≡◌, ◌≤◌, IfOk, MatchOption, None, OnErr, Some, length};
 ghost use Rattle.std.specs.Int.{from_be_bytes, w32};
 ghost use Rattle.hg_life.specs.NodeView.{node_rows};
 ghost use Rattle.hg_node.specs.Replay.StoredChange.{StoredMade, StoredMarked, StoredTook};
-ghost use Rattle.hg_journal.specs.Journal.{ComesAgain, marked_body, marked_in, next_node, node_if};
+ghost use Rattle.hg_journal.specs.Journal.{CanMark, ComesAgain, marked_body, marked_in, next_node, node_if};
 
 use hg_model::{Memory, Share};
 use hg_node::Node;
@@ -75,9 +75,10 @@ fn mark_again<V: Signer>(node: &mut Node<V>, len: usize, share: Share) -> Result
     Ok(before < node.changes())
 }
 
-// So do marks as a record's body tells them.
+// So do marks as a record's body tells them. Where it tells none that there can be, no memory is asked for.
 fn remark_again<V: Signer>(node: &mut Node<V>, body: &[u8]) -> Result<bool, Memory>
-    ensures { IfOk result (λ came. next_node V.accepts node.old 3 body.now ≡ node_if came node.new) }
+    ensures came { IfOk result (λ came. next_node V.accepts node.old 3 body.now ≡ node_if came node.new) }
+    ensures free { OnErr result (CanMark node.old body.now) }
 {
     let Some((len, k, of)) = marked_of(body) else {
         return Ok(false);
