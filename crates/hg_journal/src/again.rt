@@ -1,6 +1,8 @@
 ghost use Rattle.std.specs.Prelude.{◌≡◌, ◌≤◌, IfOk, MatchOption, None, OnErr, Some, length};
 ghost use Rattle.std.specs.Int.{from_be_bytes, w32};
 ghost use Rattle.hg_life.specs.NodeView.{node_rows};
+ghost use Rattle.hg_node.specs.Puts.{WouldAccept};
+ghost use Rattle.hg_node.specs.Restore.{WouldRestore};
 ghost use Rattle.hg_node.specs.Replay.StoredChange.{StoredMade, StoredMarked, StoredTook};
 ghost use Rattle.hg_journal.specs.Journal.{CanMark, ComesAgain, marked_body, marked_in, next_node, node_if};
 
@@ -48,7 +50,8 @@ pub(crate) fn marked_bytes(len: u32, share: Share) -> [u8; 12]
 
 // An event that was taken comes again; answers whether it changed the node.
 fn put_again<V: Signer>(node: &mut Node<V>, bytes: &[u8]) -> Result<bool, Memory>
-    ensures { IfOk result (ComesAgain V.accepts node.old (StoredTook bytes.now) node.new) }
+    ensures came { IfOk result (ComesAgain V.accepts node.old (StoredTook bytes.now) node.new) }
+    ensures free { OnErr result (WouldAccept V.accepts node.old bytes.now) }
 {
     let before = node.changes();
     node.put(bytes)?;
@@ -57,7 +60,8 @@ fn put_again<V: Signer>(node: &mut Node<V>, bytes: &[u8]) -> Result<bool, Memory
 
 // So does one that was made.
 fn restore_again<V: Signer>(node: &mut Node<V>, bytes: &[u8]) -> Result<bool, Memory>
-    ensures { IfOk result (ComesAgain V.accepts node.old (StoredMade bytes.now) node.new) }
+    ensures came { IfOk result (ComesAgain V.accepts node.old (StoredMade bytes.now) node.new) }
+    ensures free { OnErr result (WouldRestore V.accepts node.old bytes.now) }
 {
     let before = node.changes();
     node.restore(bytes)?;

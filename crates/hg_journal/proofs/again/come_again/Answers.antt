@@ -7,12 +7,12 @@ use Rattle.hg_journal.proofs.again.come_again.Goals as goal
 pub returns-in-1 : goal.returns-in-1
 returns-in-1 g c =
     let is = ap (λ (kind : ℕ). next_node g.V.Verifier.accepts c.args.node.now kind c.args.body.now) c.in-1.is ∙ took_is g.V.Verifier.accepts c.args.node.now c.args.body.now in
-    subst (λ (o : Option (NodeView _)). IfOk c.put_again.result (λ came. o ≡ node_if came c.put_again.new.node)) (sym is) c.put_again.ensures
+    subst (λ (o : Option (NodeView _)). IfOk c.put_again.result (λ came. o ≡ node_if came c.put_again.new.node)) (sym is) c.put_again.ensures.came
 
 pub returns-in-2 : goal.returns-in-2
 returns-in-2 g c =
     let is = ap (λ (kind : ℕ). next_node g.V.Verifier.accepts c.args.node.now kind c.args.body.now) c.in-2.is ∙ made_is g.V.Verifier.accepts c.args.node.now c.args.body.now in
-    subst (λ (o : Option (NodeView _)). IfOk c.restore_again.result (λ came. o ≡ node_if came c.restore_again.new.node)) (sym is) c.restore_again.ensures
+    subst (λ (o : Option (NodeView _)). IfOk c.restore_again.result (λ came. o ≡ node_if came c.restore_again.new.node)) (sym is) c.restore_again.ensures.came
 
 pub returns-in_default : goal.returns-in_default
 returns-in_default g c = no_kind g.V.Verifier.accepts c.args.node.now c.args.kind c.args.body.now (search rules) (search rules) (search rules)

@@ -1,6 +1,6 @@
 use Rattle.hg_journal.proofs.NodeLaws.{restore_comes}
 use Rattle.hg_journal.proofs.again.restore_again.Goals as goal
 
-pub returns : goal.returns
-returns g c =
+pub returns-clause-came : goal.returns-clause-came
+returns-clause-came g c =
     restore_comes g.V.Verifier.accepts c.args.node.now c.restore.new.self c.changes-before.result c.changes.result c.changes-before.ensures c.changes.ensures c.args.bytes.now c.in_ok-restore.ensures.ok
