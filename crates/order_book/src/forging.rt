@@ -1,3 +1,7 @@
+ghost use Rattle.std.specs.Prelude.{◌≡◌};
+ghost use Rattle.hg_life.specs.NodeView.{node_rows};
+ghost use Rattle.order_book.specs.Script.{last_names};
+
 use hg_check::parents_on;
 use hg_event::PAYLOAD_LIMIT;
 use hg_model::{Bytes, Member, Memory, Name};
@@ -14,7 +18,9 @@ pub struct Forged {
 }
 
 /// The name of the member's last event but one at the node.
-fn last_but_one(node: &Node<SharedTable>, member: Member) -> Option<Name> {
+fn last_but_one(node: &Node<SharedTable>, member: Member) -> Option<Name>
+    ensures { result ≡ (last_names member (node_rows node.now)).0 }
+{
     let mut last = None;
     let mut before = None;
     for place in 0..node.rows() {

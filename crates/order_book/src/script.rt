@@ -1,3 +1,9 @@
+ghost use Rattle.std.specs.Prelude.{◌≡◌, ◌++◌, IfOk, OnOk};
+ghost use Rattle.hg_model.specs.Places.{table};
+ghost use Rattle.order_match.specs.declared.request.Request.TheVariants.{Place};
+ghost use Rattle.order_match.specs.Requests.{request_bytes};
+ghost use Rattle.order_book.specs.Script.{first_event, passing, taking_back, time_of, turn_at};
+
 use hg_check::Trouble;
 use hg_life::{MemberEntry, Members};
 use hg_model::{Bytes, Member, Memory, Name};
@@ -45,7 +51,9 @@ const ORDERS: [(u32, Side, u32, u32); 10] = [
 const UNREAD: u32 = 9;
 
 /// The payload of an order.
-pub fn placing(alloc: Global, side: Side, price: u32, quantity: u32) -> Result<Bytes, Memory> {
+pub fn placing(alloc: Global, side: Side, price: u32, quantity: u32) -> Result<Bytes, Memory>
+    ensures { IfOk result (λ payload. payload ≡ request_bytes (Place side price quantity)) }
+{
     let request = Request::Place {
         side,
         price,
@@ -69,7 +77,9 @@ fn payload_at(alloc: Global, step: u32) -> Result<Bytes, Memory> {
 }
 
 /// Each member's first event.
-pub fn opening(alloc: Global) -> Result<Vec<Action>, Memory> {
+pub fn opening(alloc: Global) -> Result<Vec<Action>, Memory>
+    ensures { IfOk result (λ actions. actions.items ≡ table first_event 4) }
+{
     let mut actions = Vec::new(alloc);
     for member in 0_u16..4 {
         actions.push(Action::Make {
@@ -92,14 +102,18 @@ pub fn gossip(alloc: Global, from: u32, to: u32) -> Result<Vec<Action>, Memory> 
 }
 
 /// A step of gossip with this request.
-pub fn asking(alloc: Global, step: u32, request: &Request) -> Result<Vec<Action>, Memory> {
+pub fn asking(alloc: Global, step: u32, request: &Request) -> Result<Vec<Action>, Memory>
+    ensures { IfOk result (λ actions. actions.items ≡ turn_at step (request_bytes request.now)) }
+{
     let mut actions = Vec::new(alloc);
     push_sync(&mut actions, step, write_request(alloc, request)?)?;
     Ok(actions)
 }
 
 /// The members take turns, and each goes round the others.
-fn push_sync(actions: &mut Vec<Action>, step: u32, payload: Bytes) -> Result<(), Memory> {
+fn push_sync(actions: &mut Vec<Action>, step: u32, payload: Bytes) -> Result<(), Memory>
+    ensures { OnOk result (actions.new.items ≡ actions.old.items ++ turn_at step payload) }
+{
     let taker = (step % 4) as Member;
     let stride = (step / 4 % 3) as Member + 1;
     actions.push(Action::Sync {
@@ -113,7 +127,9 @@ fn push_sync(actions: &mut Vec<Action>, step: u32, payload: Bytes) -> Result<(),
 }
 
 /// The time that members claim at a step.
-pub fn time_of(step: u32) -> u64 {
+pub fn time_of(step: u32) -> u64
+    ensures { result ≡ time_of step }
+{
     u64::from(step) + 4
 }
 
@@ -124,7 +140,9 @@ pub fn passing(
     bytes: Bytes,
     name: Name,
     step: u32,
-) -> Result<Vec<Action>, Memory> {
+) -> Result<Vec<Action>, Memory>
+    ensures { IfOk result (λ actions. actions.items ≡ passing member bytes name step) }
+{
     let mut actions = Vec::new(alloc);
     actions.push(Action::Deliver { member, bytes })?;
     actions.push(Action::Make {
@@ -138,7 +156,9 @@ pub fn passing(
 }
 
 /// To take back the member's best order to buy, if it has one.
-pub fn taking_back(book: &Book, member: Member) -> Request {
+pub fn taking_back(book: &Book, member: Member) -> Request
+    ensures { result ≡ taking_back book.now.bids.resting member }
+{
     for order in book.bids().resting() {
         if order.member == member {
             return Request::Cancel {
