@@ -2,12 +2,12 @@
 use Rattle.std.proofs.Common.{◌≡◌, ℕ, ◌<◌, List, length, map, get_or, Result, Ok, Option, Some, None, refl, sym, ap, ◌∙◌, subst, arith}
 use Rattle.std.specs.Prelude.{unwrap_or}
 use Rattle.std.proofs.lemmas.List.{get_or-map, get_or_default, length-map}
-use Rattle.hg_model.specs.Shares.{Share}
+use Rattle.hg_model.specs.Shares.{Share, whole}
 use Rattle.hg_life.specs.Signing.{Accepts}
 use Rattle.hg_mail.specs.Mailboxes.{MailboxView}
 use Rattle.hg_board.specs.Seats.{IsOf, SharedNode, SeatView}
 use Rattle.hg_board.specs.Calls.{Stays}
-use Rattle.hg_board.specs.Crews.{OnlyMarks}
+use Rattle.hg_board.specs.Crews.{MarksAll, OnlyMarks}
 use Rattle.hg_crowd.specs.Workers.{Worked}
 use Rattle.hg_crowd.proofs.MarkLaws.{marks_of_share}
 use Rattle.hg_crowd.proofs.WorkLaws.{still_self, worked_none}
@@ -36,6 +36,7 @@ module _ (plan : Plan) (mails : List MailboxView) (places : List (SharedNode Sec
   rests none p = record {
     on = record { me = refl; still = still_self job.desk.seat };
     worked = worked_none job.seat;
+    marked = subst (λ (o : Option ℕ). 0 < turns_at plan o → MarksAll (get_or places job.desk.me p) whole job.seat job.seat) none (λ low. absurd (omega (arith, low)));
     stands = subst (λ (o : Option ℕ). Stands plan (unwrap_or o 0) mails (get_or places job.desk.me p) (turns_at plan o) (turns_at plan o) job.desk) none (run.stands 0 p);
   }
 
@@ -49,12 +50,13 @@ module _ (plan : Plan) (mails : List MailboxView) (places : List (SharedNode Sec
 
     -- what it did
     pub runs : (place : ℕ) (new : Job) → Some place ≡ place_in plan.circle.items job.desk.me → GoesOn job.desk new.desk → Worked job.seat new.seat →
-        Stands plan place mails shared plan.turns plan.turns new.desk → (p : SharedNode Secrets) → IsDoneJob plan mails (get_or places job.desk.me p) job new
-    runs place new some on worked stands p =
+        (0 < plan.turns → MarksAll shared whole job.seat new.seat) → Stands plan place mails shared plan.turns plan.turns new.desk → (p : SharedNode Secrets) → IsDoneJob plan mails (get_or places job.desk.me p) job new
+    runs place new some on worked marked stands p =
         let here : shared ≡ get_or places job.desk.me p = is ∙ get_or_default places job.desk.me shared p (omega (arith, run.me, run.count)) in
         record {
           on = on;
           worked = worked;
+          marked = subst (λ (x : Option ℕ × SharedNode Secrets). 0 < turns_at plan x.0 → MarksAll x.1 whole job.seat new.seat) (λ i. (some i, here i)) marked;
           stands = subst (λ (x : Option ℕ × SharedNode Secrets). Stands plan (unwrap_or x.0 0) mails x.1 (turns_at plan x.0) (turns_at plan x.0) new.desk) (λ i. (some i, here i)) stands;
         }
 

@@ -1,5 +1,6 @@
 -- The mailboxes and the members' jobs before their threads and after them
 use Rattle.std.specs.Prelude.{IfOk, Result, ℕ, ◌≡◌, ◌+◌, ◌<◌, ◌≤◌, Bool, nat_le, cond, List, [], length, get_or, replicate, unwrap_or, Option, Some, None}
+use Rattle.hg_model.specs.Shares.{whole}
 use Rattle.hg_life.specs.Signing.{accepts_by}
 use Rattle.hg_storm.specs.Keeping.{Secrets}
 use Rattle.hg_mail.specs.declared.view.View.{View}
@@ -8,6 +9,7 @@ use Rattle.hg_mail.specs.Messages.{first_view, receiver_view, sender_view}
 use Rattle.hg_mail.specs.Mailboxes.{IsPortOf, MailboxView, PortView}
 use Rattle.hg_board.specs.Seats.{SharedNode, SeatView}
 use Rattle.hg_board.specs.Calls.{after_split, split_off}
+use Rattle.hg_board.specs.Crews.{MarksAll}
 use Rattle.hg_crowd.specs.Crowd.{IsSeat}
 use Rattle.hg_crowd.specs.Workers.{Worked}
 use Rattle.hg_storm.specs.declared.plan.Plan.{Plan}
@@ -114,10 +116,11 @@ turns_of plan me = turns_at plan (place_in plan.circle.items me)
 abbrev pub place_of : Plan → ℕ → ℕ
 place_of plan me = unwrap_or (place_in plan.circle.items me) 0
 
--- a member took its turns, and a crew worked beside them
+-- a member took its turns, and a crew worked beside them, which with a turn or more marks what the graph before it decides
 pub record IsDoneJob (plan : Plan) (mails : List MailboxView) (p : SharedNode Secrets) (old new : Job) : Type 0 where
   pub on : GoesOn old.desk new.desk
   pub worked : Worked old.seat new.seat
+  pub marked : 0 < turns_of plan old.desk.me → MarksAll p whole old.seat new.seat
   pub stands : Stands plan (place_of plan old.desk.me) mails p (turns_of plan old.desk.me) (turns_of plan old.desk.me) new.desk
 
 -- so did all

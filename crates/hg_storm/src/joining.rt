@@ -1,7 +1,9 @@
 // The threads, and their joins.
-ghost use Rattle.std.specs.Prelude.{◌≡◌, ◌<◌, ◌≤◌, All, IfOk, Ok, Some, get_or, length, map};
+ghost use Rattle.std.specs.Prelude.{◌≡◌, ◌<◌, ◌≤◌, All, IfOk, Ok, OnOk, Some, get_or, length, map};
+ghost use Rattle.hg_model.specs.Shares.{whole};
 ghost use Rattle.hg_life.specs.Signing.{accepts_by};
 ghost use Rattle.hg_board.specs.Seats.{IsOf};
+ghost use Rattle.hg_board.specs.Crews.{MarksAll};
 ghost use Rattle.hg_crowd.specs.Workers.{Worked};
 ghost use Rattle.hg_storm.specs.Drawing.{IsCircle, IsDrawing, place_in};
 ghost use Rattle.hg_storm.specs.Turning.{GoesOn, Stands};
@@ -30,7 +32,8 @@ fn work<C: Crew, R: Wait>(
     turns: u32,
 ) -> (Seat<SharedTable>, Result<(), Memory>)
     requires { IsOf shared.now seat }
-    ensures { Worked seat result.0 }
+    ensures worked { Worked seat result.0 }
+    ensures marked { OnOk result.1 (0 < turns → MarksAll shared.now whole seat result.0) }
 {
     match crew.work(rt, alloc, shared, &mut seat, Share::new(0, 1), turns) {
         Ok(_) => (seat, Ok(())),
@@ -58,7 +61,6 @@ fn take_beside<C: Crew + Sync, G: Gate + Sync, R: Threads + Wait + Sync>(
     };
     let shared = &places[job.desk.me as usize];
     let Job { desk, seat } = job;
-    let turns = plan.turns;
     let (ended, (seat, done)) = join(
         rt,
         move || -> Result<Desk, Memory>
@@ -72,8 +74,9 @@ fn take_beside<C: Crew + Sync, G: Gate + Sync, R: Threads + Wait + Sync>(
         { take_turns(rt, alloc, mailboxes, shared, desk, plan, place, gate) },
         move || -> (Seat<SharedTable>, Result<(), Memory>)
             requires { IsOf shared.now seat }
-            ensures { Worked seat result.0 }
-        { work(rt, alloc, shared, seat, crew, turns) },
+            ensures worked { Worked seat result.0 }
+            ensures marked { OnOk result.1 (0 < plan.entry.now.turns → MarksAll shared.entry.now whole seat result.0) }
+        { work(rt, alloc, shared, seat, crew, plan.turns) },
     );
     let desk = ended?;
     done?;
