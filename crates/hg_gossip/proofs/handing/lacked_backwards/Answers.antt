@@ -11,7 +11,7 @@ pub places-init : goal.places-init
 places-init g c = (
   omega (arith, c.requires, c.rows-place.ensures),
   omega (arith, c.rows-place.ensures),
-  ap rows_of c.new-events.ensures.items
+  ap rows_of c.in_ok-events.ensures.items
       ∙ sym (ap (λ rows. reverse (lacking (node_rows c.args.taker.now) rows)) (drop_all c.rows-place.result (node_rows c.args.peer.now) (omega (arith, c.rows-place.ensures)))),
 )
 
