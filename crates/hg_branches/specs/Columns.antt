@@ -52,6 +52,10 @@ pub record HoldsCounts (n : Stakes) (L : List Link) (branches makers : List ℕ)
   pub row : (x : ℕ) → x < length L → CountsAncestors L (branching_of branches makers) x (count_in counts x)
   pub wide : (x : ℕ) → x < length L → member_count n ≤ length (get_or counts x [])
 
+-- the mask has the members of whom this holds
+abbrev pub HasThose : ℕ → (ℕ → Bool) → Type 0
+HasThose mask holds = (m : ℕ) → mask_has mask m ≡ holds m
+
 -- of some branch by member m the first counts more than the second
 abbrev pub counts_more : List ℕ → (ℕ → ℕ) → (ℕ → ℕ) → ℕ → Bool
 counts_more makers count other m = some_below (length makers) (λ b. nat_lt (other b) (count b) && get_or makers b 0 == m)

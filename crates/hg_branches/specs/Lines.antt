@@ -53,8 +53,8 @@ abbrev pub HasOthers : List Link → List ℕ → List ℕ → List ℕ → ℕ 
 HasOthers L makers firsts counts y mask = (m : ℕ) → mask_has mask m ≡ others_see L makers firsts counts y m
 
 -- the mask has these members, and the maker of branch b if that sees y and its own does not
-abbrev pub AddsOther : List Link → List ℕ → List ℕ → List ℕ → ℕ → ℕ → ℕ → ℕ → Type 0
-AddsOther L makers firsts counts y b before after =
+abbrev pub AddsSeer : List Link → List ℕ → List ℕ → List ℕ → ℕ → ℕ → ℕ → ℕ → Type 0
+AddsSeer L makers firsts counts y b before after =
     (m : ℕ) → mask_has after m ≡ (mask_has before m || (other_sees L makers firsts counts y b && slice_index makers b == m))
 
 -- the members that see y, by their own branches or by others, have more than two thirds of the stake

@@ -1,5 +1,5 @@
 -- Tails of rows of counts, cut from one list of numbers
-use Rattle.std.specs.Prelude.{ℕ, suc, zero, ◌+◌, ◌-◌, ◌<◌, ◌≤◌, ◌==◌, nat_lt, max, cond, List, [], length, slice_index, slice_index_or, slice_range}
+use Rattle.std.specs.Prelude.{◌≡◌, ℕ, suc, zero, ◌+◌, ◌-◌, ◌<◌, ◌≤◌, ◌==◌, nat_lt, max, cond, List, [], length, slice_index, slice_index_or, slice_range}
 use Rattle.hg_model.specs.Places.{table}
 use Rattle.hg_branches.specs.declared.tails.Part.{Part}
 
@@ -20,6 +20,10 @@ tail_at tails x = slice_index_or tails x no_tail
 -- what a row counts of the branch at place k, if of its own branch it counts its end and of the others these numbers
 abbrev pub place_count : List ℕ → ℕ → ℕ → ℕ → ℕ
 place_count numbers own end k = max (slice_index numbers k) (cond (k + 1 == own) end 0)
+
+-- each number of the row is the greater of what it was and of this count
+abbrev pub IsRaisedBy : (ℕ → ℕ) → List ℕ → List ℕ → Type 0
+IsRaisedBy count old new = (k : ℕ) → slice_index new k ≡ max (slice_index old k) (count k)
 
 -- of how many places it tells
 abbrev pub place_width : List ℕ → ℕ → ℕ

@@ -2,7 +2,7 @@ ghost use Rattle.std.specs.Prelude.{◌≡◌, ◌<◌, ◌≤◌, ◌||◌, ◌
 ghost use Rattle.std.specs.List.{AllByRecursion, list_all};
 ghost use Rattle.hg_bits.specs.Masks.{mask_has};
 ghost use Rattle.hg_branches.specs.Branches.{greatest_count};
-ghost use Rattle.hg_branches.specs.Columns.{count_in, counts_more, forks_anew, forks_next, forks_on_own, joined_counts};
+ghost use Rattle.hg_branches.specs.Columns.{HasThose, count_in, counts_more, forks_anew, forks_next, forks_on_own, joined_counts};
 ghost use Rattle.hg_branches.specs.Table.{is_own_row};
 
 use crate::counts::{RowCounts, row_of};
@@ -27,7 +27,7 @@ pub fn forked_next(
     requires own_all { counts.now.members ≤ length makers.now }
     requires rows { length counts.now.rows ≡ length forked.now.items }
     requires places { AllByRecursion (λ p. p < length forked.now.items) on.now }
-    ensures { (m : ℕ) → mask_has result m ≡ forks_next makers.now counts.now.rows forked.now.items many on.now by m }
+    ensures { HasThose result (forks_next makers.now counts.now.rows forked.now.items many on.now by) }
 {
     match on.split_first() {
         None => 0,
@@ -63,8 +63,7 @@ fn new_forks(
     requires first { first < length counts.now.rows }
     requires others { AllByRecursion (λ p. p < length counts.now.rows) others.now }
     requires next { next < length counts.now.rows }
-    ensures { (m : ℕ) → mask_has result m ≡
-        forks_anew makers.now (joined_counts counts.now.rows first others.now) (count_in counts.now.rows next) by m }
+    ensures { HasThose result (forks_anew makers.now (joined_counts counts.now.rows first others.now) (count_in counts.now.rows next) by) }
 {
     if counts.is_own(next) && counts.is_own(first) && are_own(counts, others) {
         return own_fork(counts, first, others, next, by);
@@ -95,8 +94,7 @@ fn own_fork(counts: &CountTable, first: usize, others: &[usize], next: usize, by
     requires first { first < length counts.now.rows }
     requires others { AllByRecursion (λ p. p < length counts.now.rows) others.now }
     requires next { next < length counts.now.rows }
-    ensures { (m : ℕ) → mask_has result m ≡
-        forks_on_own (joined_counts counts.now.rows first others.now) (count_in counts.now.rows next) by m }
+    ensures { HasThose result (forks_on_own (joined_counts counts.now.rows first others.now) (count_in counts.now.rows next) by) }
 {
     let own = usize::from(by);
     let most = greatest(counts.at(first, own), counts, others, own);
@@ -131,8 +129,7 @@ fn members_over(
     requires members { (b : ℕ) → b < length makers.now → slice_index makers.now b < 128 }
     requires first { first < length counts.now.rows }
     requires others { AllByRecursion (λ p. p < length counts.now.rows) others.now }
-    ensures { (m : ℕ) → mask_has result m ≡
-        counts_more makers.now (joined_counts counts.now.rows first others.now) (slice_index there.now.row) m }
+    ensures { HasThose result (counts_more makers.now (joined_counts counts.now.rows first others.now) (slice_index there.now.row)) }
 {
     let mut mask = members_apart(makers, &row_of(counts, first), there);
     for row in others {
@@ -153,7 +150,7 @@ fn with_if(mask: u128, member: Member, has: bool) -> u128
 #[tactic(auto, using(hg_model::proofs::PlacesLaws::some_steps))]
 fn members_apart(makers: &[Member], counts: &RowCounts, other: &RowCounts) -> u128
     requires { (b : ℕ) → b < length makers.now → slice_index makers.now b < 128 }
-    ensures { (m : ℕ) → mask_has result m ≡ counts_more makers.now (slice_index counts.now.row) (slice_index other.now.row) m }
+    ensures { HasThose result (counts_more makers.now (slice_index counts.now.row) (slice_index other.now.row)) }
 {
     let mut mask = 0;
     let mut b = 0;
@@ -176,8 +173,7 @@ fn members_past(
     requires members { (b : ℕ) → b < length makers.now → slice_index makers.now b < 128 }
     requires first { first < length counts.now.rows }
     requires others { AllByRecursion (λ p. p < length counts.now.rows) others.now }
-    ensures { (m : ℕ) → mask_has result m ≡
-        counts_more makers.now (slice_index there.now.row) (joined_counts counts.now.rows first others.now) m }
+    ensures { HasThose result (counts_more makers.now (slice_index there.now.row) (joined_counts counts.now.rows first others.now)) }
 {
     let here = row_of(counts, first);
     let mut mask = 0;

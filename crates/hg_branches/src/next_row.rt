@@ -3,7 +3,7 @@
 ghost use Rattle.std.specs.Prelude.{◌≡◌, ◌<◌, ◌≤◌, ◌+◌, ◌==◌, ◌^◌, ℕ, cond, max, length, slice_index, vec_capacity};
 ghost use Rattle.std.specs.List.{AllByRecursion};
 ghost use Rattle.hg_branches.specs.Table.{tail_next};
-ghost use Rattle.hg_branches.specs.Tails.{place_count, place_width, tail_width};
+ghost use Rattle.hg_branches.specs.Tails.{IsRaisedBy, place_count, place_width, tail_width};
 
 use crate::counts::raise_first;
 use crate::row_tail::RowTail;
@@ -48,7 +48,7 @@ fn join_wide_tails(row: &mut Vec<u32>, tails: &TailBlocks, on: &[usize], own: us
 pub fn raise_row(row: &mut Vec<u32>, others: &[u32])
     requires { length others.now ≤ vec_capacity row.old }
     ensures len { length row.new.items ≡ max (length row.old.items) (length others.now) }
-    ensures each { (k : ℕ) → slice_index row.new.items k ≡ max (slice_index row.old.items k) (slice_index others.now k) }
+    ensures each { IsRaisedBy (slice_index others.now) row.old.items row.new.items }
     ensures capacity { vec_capacity row.old ≤ vec_capacity row.new }
 {
     let both = row.len().min(others.len());
@@ -60,8 +60,7 @@ pub fn raise_row(row: &mut Vec<u32>, others: &[u32])
 fn raise_tail(row: &mut Vec<u32>, tail: RowTail)
     requires { place_width tail.numbers.now tail.own ≤ vec_capacity row.old }
     ensures len { length row.new.items ≡ max (length row.old.items) (place_width tail.entry.numbers.now tail.entry.own) }
-    ensures each { (k : ℕ) → slice_index row.new.items k ≡
-        max (slice_index row.old.items k) (place_count tail.entry.numbers.now tail.entry.own tail.entry.end k) }
+    ensures each { IsRaisedBy (place_count tail.entry.numbers.now tail.entry.own tail.entry.end) row.old.items row.new.items }
     ensures capacity { vec_capacity row.old ≤ vec_capacity row.new }
 {
     raise_row(row, tail.numbers);

@@ -6,7 +6,7 @@ ghost use Rattle.hg_model.specs.Seeing.{sees};
 ghost use Rattle.hg_model.specs.GraphWords.{sees_in};
 ghost use Rattle.hg_bits.specs.Masks.{mask_has};
 ghost use Rattle.hg_branches.specs.FirstSeers.{AddsFirst};
-ghost use Rattle.hg_branches.specs.Lines.{line_sees, sees_on, seen_on, may_see, AddsOther, AreSeveral, HasOthers, is_strong_by_firsts};
+ghost use Rattle.hg_branches.specs.Lines.{line_sees, sees_on, seen_on, may_see, AddsSeer, AreSeveral, HasOthers, is_strong_by_firsts};
 
 use crate::counts::{RowCounts, number_at};
 use crate::firsts::weigh_counts;
@@ -161,7 +161,7 @@ fn with_other(
     requires other { length (numbers_of target.firsts) ≤ b }
     requires member { slice_index makers.now b < 128 }
     requires there { slice_index counts.now.row b ≤ length sight.now.shape.links }
-    ensures { AddsOther sight.now.shape.links makers.now (numbers_of target.entry.firsts) counts.now.row
+    ensures { AddsSeer sight.now.shape.links makers.now (numbers_of target.entry.firsts) counts.now.row
         target.entry.row b mask result }
 {
     // No row before y sees it.

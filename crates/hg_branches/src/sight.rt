@@ -22,8 +22,8 @@ use hg_model::{Counts, Growing, Member, Memory, Sight, is_shaped};
 use std::alloc::Global;
 use std::marker::Model;
 
-/// With so many rows a graph takes no more.
-const MOST_ROWS: usize = 4_294_967_294;
+/// With so many rows a graph takes no more: their ends have 32 bits.
+const WIDE_ROWS: usize = 4_294_967_294;
 
 /// A graph that tells its ancestry by branches. A prefix shares its sealed blocks of 64 rows.
 #[derive(Drop)]
@@ -139,7 +139,7 @@ impl BranchSight {
             return Ok(());
         }
         let rows = self.links.len();
-        if rows >= MOST_ROWS {
+        if rows >= WIDE_ROWS {
             return Err(Memory);
         }
         self.links.reserve()?;
@@ -233,7 +233,7 @@ impl BranchSight {
 fn most_rows(wide: bool) -> usize
     ensures { result < none_by wide }
 {
-    if wide { MOST_ROWS } else { NARROW_ROWS }
+    if wide { WIDE_ROWS } else { NARROW_ROWS }
 }
 
 /// The makers of the members' own branches.

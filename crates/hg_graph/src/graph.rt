@@ -195,7 +195,8 @@ impl EventGraph {
 
     /// The same rows as a value of its own.
     pub fn freeze(&self) -> Result<FrozenGraph, Memory>
-        ensures { IfOk result (λ frozen. frozen.graph ≡ self.now.graph) }
+        ensures graph { IfOk result (λ frozen. frozen.graph ≡ self.now.graph) }
+        ensures sealed { IfOk result (λ frozen. frozen.sealed ≡ (length self.now.graph.rows - 1) / 64) }
     {
         self.prefix(self.store.len())
     }

@@ -122,7 +122,8 @@ impl RoundTable {
     /// whole table's, so that no further row can be placed in it. It shares what is sealed of the rows and of the lists.
     pub fn prefix(&self, len: usize) -> Result<RoundTable, Memory>
         requires { len ≤ length self.now.standings }
-        ensures { IfOk result (λ t. t.standings ≡ take len self.now.standings) }
+        ensures standings { IfOk result (λ t. t.standings ≡ take len self.now.standings) }
+        ensures weights { IfOk result (λ t. t.weights ≡ take (greatest_in t.standings + 2) self.now.weights) }
     {
         let greatest = greatest_first(&self.tops, len);
         Ok(RoundTable {
