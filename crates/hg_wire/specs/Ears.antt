@@ -11,6 +11,7 @@ use Rattle.hg_wire.specs.declared.progress.Progress.{Progress}
 use Rattle.hg_wire.specs.declared.progress.Turn.{Turn}
 use Rattle.hg_wire.specs.declared.progress.Turn.TheVariants as turn
 use Rattle.hg_wire.specs.declared.hearing.Hearing.{Hearing}
+use Rattle.hg_wire.specs.Grammar.{AreBytes}
 use Rattle.hg_wire.specs.Outcome.{Outcome, Unfinished, Faulty, Finished, Reader}
 use Rattle.hg_wire.specs.Reading.{read}
 use Rattle.hg_wire.specs.Progress.{State, Into, Done, field, is_open, rest_of}
@@ -59,6 +60,11 @@ WaitsIfMore ear (Refused fault) = ⊤
 -- and the fewest that stand behind it
 abbrev pub wanted : Place → ℕ
 wanted ear = max (least_of ear.state.stage ear.pending - length ear.pending) 1 + behind ear.state.stage
+
+-- so many bytes at least are still to come of a message that more bytes make whole
+abbrev pub LacksAtLeast : ℕ → Place → Type 0
+LacksAtLeast count ear =
+    (more rest : List ℕ) (m : Message) → AreBytes more → means ear more ≡ Finished m rest → count + length rest ≤ length more
 
 -- ---- from within
 

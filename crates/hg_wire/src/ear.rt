@@ -1,8 +1,6 @@
-ghost use Rattle.std.specs.Prelude.{◌≡◌, ◌+◌, ◌<◌, ◌≤◌, ℕ, [], List, length, IfOk, OnErr};
-ghost use Rattle.hg_wire.specs.declared.message.Message.{Message};
-ghost use Rattle.hg_wire.specs.Outcome.{Unfinished, Finished};
-ghost use Rattle.hg_wire.specs.Grammar.{AreBytes};
-ghost use Rattle.hg_wire.specs.Ears.{Answers, GoesOn, HasHeard, IsOn, WaitsIfMore, means, wanted};
+ghost use Rattle.std.specs.Prelude.{◌≡◌, ◌<◌, [], IfOk, OnErr};
+ghost use Rattle.hg_wire.specs.Outcome.{Unfinished};
+ghost use Rattle.hg_wire.specs.Ears.{Answers, GoesOn, HasHeard, IsOn, LacksAtLeast, WaitsIfMore, means, wanted};
 
 use crate::hearing::{Hearing, are_bytes, hear};
 use crate::message::{Fed, Want};
@@ -75,8 +73,7 @@ impl Ear {
         requires { means self.now [] ≡ Unfinished }
         ensures value { result ≡ wanted self.now }
         ensures some { 0 < result }
-        ensures least { (more rest : List ℕ) (m : Message) → AreBytes more
-            → means self.now more ≡ Finished m rest → result + length rest ≤ length more }
+        ensures least { LacksAtLeast result self.now }
     {
         let pending = self.hearing.pending.as_slice();
         are_bytes(pending);

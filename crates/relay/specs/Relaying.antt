@@ -57,6 +57,12 @@ unopened name = record { node = None; name = name; gate = 0 }
 abbrev pub outside : {K A B C : Type 0} → disk.Ghosts A → source.Ghosts B → sink.Ghosts C → Request → Outside A B C → Moment K
 outside D S T asked out = moment D S T (unopened asked.disk.now) out
 
+-- so it is between what is outside before and after
+abbrev pub RelaysStoredOn : {K A B C : Type 0} → (K → Accepts) → disk.Ghosts A → source.Ghosts B → sink.Ghosts C
+    → Start K → Request → Outside A B C → Outside A B C → StoredView K → Type 0
+RelaysStoredOn accepts D S T start asked out after stored =
+    RelaysStored accepts start asked (outside D S T asked out) (outside D S T asked after) stored
+
 -- why a relay ended early: the file is foreign, or broken at this place, and stays; or gossip ended
 pub data IsHalted {K : Type 0} (accepts : K → Accepts) (start : Start K) (a b : Moment K) (status : Status) : Type 0 where
   OfOthers : status ≡ Journal Foreign → Stays a.file b.file
@@ -64,6 +70,12 @@ pub data IsHalted {K : Type 0} (accepts : K → Accepts) (start : Start K) (a b 
   Damaged : (at : ℕ) → status ≡ Journal (Broken at) → Stays a.file b.file
       → ForSome a.file.reads (λ bytes. reading_of accepts start bytes ≡ R.Broken at) → IsHalted accepts start a b status
   Ended : HasCause a b status → IsHalted accepts start a b status
+
+-- so it is between what is outside before and after
+abbrev pub IsHaltedOn : {K A B C : Type 0} → (K → Accepts) → disk.Ghosts A → source.Ghosts B → sink.Ghosts C
+    → Start K → Request → Outside A B C → Outside A B C → Status → Type 0
+IsHaltedOn accepts D S T start asked out after status =
+    IsHalted accepts start (outside D S T asked out) (outside D S T asked after) status
 
 -- what is told of a node: its block by the marks that it has published, and the certificate of its order, if it is wanted
 pub record TellsKept {K : Type 0} (accepts : K → Accepts) (members : MemberList) (wanted : Bool) (v : NodeView K) (told : Relayed) : Type 0 where

@@ -2,11 +2,15 @@
 use Rattle.std.specs.Prelude.{◌≡◌, ℕ, List, [], ◌∷◌, Option, Some}
 use Rattle.std.specs.Option.{ForSome}
 use Rattle.hg_io.specs.FileView.{FileView}
+use Rattle.hg_io.specs.declared.sink.Sink as sink
+use Rattle.hg_io.specs.declared.source.Source as source
+use Rattle.hg_journal.specs.Stored.{StoredView}
 use Rattle.hg_keep.specs.Keeping.{IsMadeSome, IsPutSome, IsSettledSome, SettlesOf}
 use Rattle.hg_keep.specs.Stops.{StopsLeaveOf}
 use Rattle.hg_life.specs.NodeView.{NodeView}
 use Rattle.hg_life.specs.Signing.{Accepts}
-use Rattle.relay.specs.Exchanges.{AreExchanges, Streams}
+use Rattle.relay.specs.Exchanges.{AreExchanges, Streams, streams_of}
+use Rattle.relay.specs.declared.gossip.Outside.{Outside}
 use Rattle.relay.specs.declared.request.Request.{Request}
 
 -- a node after one step, or before: first ones of these bytes were put to it, it made the event that comes next, at this time
@@ -39,3 +43,9 @@ pub record RelaysAll {K : Type 0} (accepts : K → Accepts) (asked : Request) (b
 -- from old to new, and still at new, a stop leaves the journal of a node that came by gossip of the one that was there
 abbrev pub StopsRelayOf : {K : Type 0} → (K → Accepts) → Option (NodeView K) → FileView → FileView → Type 0
 StopsRelayOf accepts node old new = StopsLeaveOf accepts (IsRelayed accepts) node old new
+
+-- so it is of the node that was there, between what is outside before and after
+abbrev pub RelaysAllOn : {K A B C : Type 0} → (K → Accepts) → source.Ghosts B → sink.Ghosts C
+    → Request → Outside A B C → Outside A B C → StoredView K → StoredView K → Type 0
+RelaysAllOn accepts S T asked out after stored kept =
+    ForSome stored.node (λ v. RelaysAll accepts asked (streams_of S T out) (streams_of S T after) v kept.node)

@@ -1,7 +1,10 @@
 -- The program in one call: what is told at the end, and how a call ends
 use Rattle.std.specs.Prelude.{◌≡◌, ◌⊎◌, ℕ, List, Option, Some, None, Result, Ok, Err, is_some, codes}
 use Rattle.hg_io.specs.Files.{Files}
+use Rattle.hg_io.specs.declared.disk.Disk as disk
 use Rattle.hg_io.specs.declared.shelf.Shelf as shelf
+use Rattle.hg_io.specs.declared.sink.Sink as sink
+use Rattle.hg_io.specs.declared.source.Source as source
 use Rattle.hg_life.specs.Members.{MemberList}
 use Rattle.hg_life.specs.NodeView.{NodeView}
 use Rattle.hg_life.specs.Signing.{accepts_by}
@@ -15,10 +18,11 @@ use Rattle.hg_top.specs.declared.status.File.TheVariants as file
 use Rattle.hg_top.specs.declared.status.Status.{Status}
 use Rattle.hg_top.specs.declared.status.Status.TheVariants.{Memory, Own, Usage}
 use Rattle.hg_world.specs.World.{Secrets}
+use Rattle.relay.specs.declared.gossip.Outside.{Outside}
 use Rattle.relay.specs.declared.request.Request.{Request}
 use Rattle.relay.specs.declared.top.Relayed.{Relayed}
 use Rattle.relay.specs.Moments.{Moment}
-use Rattle.relay.specs.Relaying.{IsHalted, Relays, TellsKept}
+use Rattle.relay.specs.Relaying.{IsHalted, Relays, TellsKept, outside}
 
 -- What is told is that of a node which came of the one whose journal the file was by all exchanges that are asked for, and has
 -- published all that its graph decides; the file is its journal then, and a stop leaves it so. The members' secrets are its keys.
@@ -37,6 +41,12 @@ RelayTells holds asked a b told =
     (members : MemberList) × AreTaken holds asked.members.now members
     × ((m : ℕ) × (own_in members asked.own.now ≡ Some m) × MemberRelays members m asked a b told)
 
+-- so it is between what is outside before and after
+abbrev pub RelayTellsOn : {A B C : Type 0} → disk.Ghosts A → source.Ghosts B → sink.Ghosts C
+    → Option Files → Request → Outside A B C → Outside A B C → Relayed → Type 0
+RelayTellsOn D S T holds asked out after told =
+    RelayTells holds asked (outside D S T asked out) (outside D S T asked after) told
+
 -- why nothing is told: the member file was not taken, or has no such member, or its node came to that
 abbrev pub RelayEnds : {S : Type 0} → shelf.Ghosts S → S → S → Request → Moment Secrets → Moment Secrets → Status → Type 0
 RelayEnds F before after asked a b status =
@@ -44,6 +54,12 @@ RelayEnds F before after asked a b status =
     ⊎ ((members : MemberList) × AreTaken (F.holds before) asked.members.now members
     × (((own_in members asked.own.now ≡ None) × (status ≡ Own))
     ⊎ ((m : ℕ) × (own_in members asked.own.now ≡ Some m) × IsHalted accepts_by (start_in members m) a b status)))
+
+-- so it is between what is outside before and after
+abbrev pub RelayEndsOn : {F A B C : Type 0} → shelf.Ghosts F → disk.Ghosts A → source.Ghosts B → sink.Ghosts C
+    → F → F → Request → Outside A B C → Outside A B C → Status → Type 0
+RelayEndsOn F D S T before after asked out end status =
+    RelayEnds F before after asked (outside D S T asked out) (outside D S T asked end) status
 
 -- the line that a call writes to standard error: that of the status, but for words that are not accepted
 abbrev pub told_line : Status → List ℕ

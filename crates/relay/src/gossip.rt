@@ -1,10 +1,9 @@
 ghost use Rattle.std.specs.Prelude.{◌≤◌, IfOk, OnOk};
-ghost use Rattle.std.specs.Option.{ForSome};
 ghost use Rattle.hg_wire.specs.Grammar.{item_count, message_bytes};
 ghost use Rattle.hg_wire.specs.Reading.{count_limit};
-ghost use Rattle.relay.specs.Exchanges.{AsksOn, ExchangesOn, LearnsOn, ServesOn, streams_of};
+ghost use Rattle.relay.specs.Exchanges.{AsksOn, ExchangesOn, LearnsOn, ServesOn};
 ghost use Rattle.relay.specs.Moments.{GossipsOn, Hears, IsOpen, Says, moment};
-ghost use Rattle.relay.specs.Steps.{RelaysAll};
+ghost use Rattle.relay.specs.Steps.{RelaysAllOn};
 
 use crate::request::Request;
 use hg_exchange::{MessageFault, names_of};
@@ -118,8 +117,7 @@ impl<D: Disk, S: Source, K: Sink> Outside<D, S, K> {
     ) -> Result<(), Status>
         requires { IsOpen V.accepts (moment D.Disk S.Source K.Sink stored.old self.old) }
         ensures gossips { GossipsOn V.accepts D.Disk S.Source K.Sink stored.old stored.new self.old self.new result }
-        ensures settles { OnOk result (ForSome stored.old.node (λ v. RelaysAll V.accepts asked.now
-            (streams_of S.Source K.Sink self.old) (streams_of S.Source K.Sink self.new) v stored.new.node)) }
+        ensures settles { OnOk result (RelaysAllOn V.accepts S.Source K.Sink asked.now self.old self.new stored.old stored.new) }
     {
         for i in 0..asked.exchanges {
             let time = asked.time.saturating_add(u64::from(i));

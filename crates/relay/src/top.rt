@@ -1,8 +1,8 @@
 ghost use Rattle.std.specs.Prelude.{◌<◌, IfErr, IfOk, is_some, length};
 ghost use Rattle.hg_life.specs.NodeView.{start_of};
 ghost use Rattle.hg_play.specs.Sites.{IsMadeWith};
-ghost use Rattle.relay.specs.Relaying.{IsHalted, RelaySyncs, RelaysStored, TellsKept, outside};
-ghost use Rattle.relay.specs.Top.{RelayEnds, RelayTells};
+ghost use Rattle.relay.specs.Relaying.{IsHaltedOn, RelaySyncs, RelaysStoredOn, TellsKept};
+ghost use Rattle.relay.specs.Top.{RelayEndsOn, RelayTellsOn};
 
 use crate::gossip::Outside;
 use crate::request::Request;
@@ -56,12 +56,12 @@ impl<D: Disk, S: Source, K: Sink> Outside<D, S, K> {
         asked: &Request<'_>,
     ) -> Result<Stored<V>, Status>
         requires { own < length members.now.entries }
-        ensures relayed { IfOk result (RelaysStored V.accepts (start_of members.now own keys) asked.now
-            (outside D.Disk S.Source K.Sink asked.now self.old) (outside D.Disk S.Source K.Sink asked.now self.new)) }
+        ensures relayed { IfOk result (RelaysStoredOn V.accepts D.Disk S.Source K.Sink
+            (start_of members.now own keys) asked.now self.old self.new) }
         ensures synced { RelaySyncs V.accepts (start_of members.now own keys)
             (D.file self.old.disk) (D.file self.new.disk) result }
-        ensures halted { IfErr result (IsHalted V.accepts (start_of members.now own keys)
-            (outside D.Disk S.Source K.Sink asked.now self.old) (outside D.Disk S.Source K.Sink asked.now self.new)) }
+        ensures halted { IfErr result (IsHaltedOn V.accepts D.Disk S.Source K.Sink
+            (start_of members.now own keys) asked.now self.old self.new) }
     {
         let mut stored = Stored::open(self.alloc, &mut self.disk, asked.disk, members, own, keys)?;
         self.gossip(&mut stored, asked)?;
@@ -77,11 +77,9 @@ pub(crate) fn relay<F: Shelf, D: Disk, S: Source, K: Sink>(
     out: &mut Outside<D, S, K>,
 ) -> Result<Relayed, Status>
     // What is told is that of a node that came by the exchanges of the one whose journal the file was, and the file is its then.
-    ensures tells { IfOk result (RelayTells (F.holds shelf.old) asked.now
-        (outside D.Disk S.Source K.Sink asked.now out.old) (outside D.Disk S.Source K.Sink asked.now out.new)) }
+    ensures tells { IfOk result (RelayTellsOn D.Disk S.Source K.Sink (F.holds shelf.old) asked.now out.old out.new) }
     // Each other status has its cause, as in `hashgraph`.
-    ensures ends { IfErr result (RelayEnds F.Shelf shelf.old shelf.new asked.now
-        (outside D.Disk S.Source K.Sink asked.now out.old) (outside D.Disk S.Source K.Sink asked.now out.new)) }
+    ensures ends { IfErr result (RelayEndsOn F.Shelf D.Disk S.Source K.Sink shelf.old shelf.new asked.now out.old out.new) }
 {
     let members = members_from(out.alloc, shelf, asked.members)?;
     let Some(own) = own_in(&members, asked.own) else {
