@@ -17,4 +17,4 @@ of-requires-clause-sight c =
 pub of-requires-clause-rounds : goal.of-requires-clause-rounds
 of-requires-clause-rounds c =
     let all = first_links_are c.self.invariant c.args.len (subst (λ (g : GraphWithRoom). c.args.len ≤ length g.graph.rows) (sym c.self.view_is) c.requires) in
-    rw (c.in_ok-prefix-3.ensures ∙ all.3, c.in_ok-prefix-2.ensures ∙ all.2, c.into_parts-blocks.ensures.items, c.in_ok-prefix.ensures.rows) refl
+    rw (c.in_ok-prefix-3.ensures.standings ∙ all.3, c.in_ok-prefix-2.ensures ∙ all.2, c.into_parts-blocks.ensures.items, c.in_ok-prefix.ensures.rows) refl
