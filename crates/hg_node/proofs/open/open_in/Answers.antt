@@ -16,7 +16,7 @@ pub returns-clause-opens : goal.returns-clause-opens
 returns-clause-opens c =
     let g = c.args.graph.now.graph in
     record {
-      graph = c.in_ok-frozen.ensures;
+      graph = c.in_ok-frozen.ensures.graph;
       votes = c.in_ok-table.ensures.made g c.requires.made;
       places = subst (λ (k : ℕ). OpensAll g c.args.kept.now.published.marks c.args.share k c.in_ok-places.places.items) c.len-rows.ensures.value c.in_ok-places.ensures;
       some = (let is = some_items _ (sym c.is_empty.ensures ∙ c.if-is_empty.false) in search rules);
