@@ -1,4 +1,4 @@
-ghost use Rattle.std.specs.Prelude.{◌≡◌, ◌<◌, ◌≤◌, [], All, Some, length, option_map, slice_get, IfOk};
+ghost use Rattle.std.specs.Prelude.{◌≡◌, ◌<◌, ◌≤◌, ◌-◌, ◌/◌, [], All, Some, length, option_map, slice_get, IfOk};
 ghost use Rattle.hg_model.specs.declared.row.Placed.{Placed};
 ghost use Rattle.hg_model.specs.Forks.{forkers};
 ghost use Rattle.hg_model.specs.Rounds.{last_round};
@@ -105,7 +105,8 @@ impl<V: Signer> Node<V> {
 
     /// The node's graph as a value of its own, which speaks of its rows whatever comes then.
     pub fn freeze(&self) -> Result<FrozenGraph, Memory>
-        ensures { IfOk result (λ frozen. frozen.graph ≡ graph_in self.now) }
+        ensures graph { IfOk result (λ frozen. frozen.graph ≡ graph_in self.now) }
+        ensures sealed { IfOk result (λ frozen. frozen.sealed ≡ (length (node_rows self.now) - 1) / 64) }
     {
         self.chronicle.graph().freeze()
     }

@@ -23,4 +23,4 @@ returns-clause-waits g c = (left g c).waits
 
 pub returns-clause-graph : goal.returns-clause-graph
 returns-clause-graph g c =
-    subst (λ v. IfOk c.freeze-frozen.result (λ frozen. frozen.graph ≡ graph_in v)) (left g c).same c.freeze-frozen.ensures
+    subst (λ v. IfOk c.freeze-frozen.result (λ frozen. frozen.graph ≡ graph_in v)) (left g c).same c.freeze-frozen.ensures.graph
