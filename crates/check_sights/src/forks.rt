@@ -2,7 +2,8 @@ ghost use Rattle.std.specs.Prelude.{◌≡◌, ◌≤◌, length, OnOk};
 ghost use Rattle.hg_model.specs.Shape.{FitsLink, link_of};
 ghost use Rattle.hg_forks.specs.SelfLinks.{self_shape};
 
-use crate::growing::{FORKED, fits, self_place};
+use crate::forking::FORKED;
+use crate::growing::{fits, self_place};
 use crate::telling::equal;
 use hg_ancestry::BitSight;
 use hg_forks::Watch;

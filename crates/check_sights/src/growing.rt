@@ -11,20 +11,6 @@ use hg_model::{Growing, Member, Memory, Sight};
 /// A row: who made it, and the places of its parents, the self-parent's first.
 pub(crate) type Made = (Member, &'static [usize]);
 
-/// The fourth of four members forks on its first row, and the third holds both branches at the end.
-pub(crate) const FORKED: [Made; 10] = [
-    (2, &[]),
-    (0, &[]),
-    (3, &[]),
-    (3, &[2, 1]),
-    (0, &[1, 3]),
-    (2, &[0, 4]),
-    (1, &[]),
-    (3, &[2, 1]),
-    (1, &[6, 7]),
-    (2, &[5, 8]),
-];
-
 /// The self-parent's place, if there is one.
 pub(crate) fn self_place(parents: &[usize]) -> Option<usize>
     ensures { place_list result ≡ first_place parents.now }

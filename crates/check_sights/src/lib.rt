@@ -17,8 +17,6 @@ mod bits;
 #[cfg(test)]
 mod blocks;
 #[cfg(test)]
-mod both;
-#[cfg(test)]
 mod branches;
 #[cfg(test)]
 mod counting;
@@ -30,8 +28,6 @@ mod forks;
 mod growing;
 #[cfg(test)]
 mod kept;
-#[cfg(test)]
-mod made;
 #[cfg(test)]
 mod order;
 #[cfg(test)]
