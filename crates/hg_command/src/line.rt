@@ -182,24 +182,15 @@ pub(crate) fn command<'a>(alloc: Global) -> Result<Command<'a>, AllocError>
     ensures app { IfOk result (λ c. app_of c ≡ asked.command) }
     ensures local { IfOk result (λ c. (out-Command c).has_globals ≡ false) }
 {
-    let run = run_command(alloc)?;
-    let make = make_command(alloc)?;
-    let keep = keep_command(alloc)?;
-    let prove = prove_command(alloc)?;
-    let check = check_command(alloc)?;
-    let storm = storm_command(alloc)?;
-    let ask = ask_command(alloc)?;
-    let serve = serve_command(alloc)?;
-    let take = take_command(alloc)?;
     let whole = program(alloc)
-        .subcommand(run)?
-        .subcommand(make)?
-        .subcommand(keep)?
-        .subcommand(prove)?
-        .subcommand(check)?
-        .subcommand(storm)?
-        .subcommand(ask)?
-        .subcommand(serve)?
-        .subcommand(take)?;
+        .subcommand(run_command(alloc)?)?
+        .subcommand(make_command(alloc)?)?
+        .subcommand(keep_command(alloc)?)?
+        .subcommand(prove_command(alloc)?)?
+        .subcommand(check_command(alloc)?)?
+        .subcommand(storm_command(alloc)?)?
+        .subcommand(ask_command(alloc)?)?
+        .subcommand(serve_command(alloc)?)?
+        .subcommand(take_command(alloc)?)?;
     Ok(whole)
 }

@@ -14,12 +14,12 @@ with_added old sub new whole app added whole_is app_is local =
 pub returns-clause-app : goal.returns-clause-app
 unfolding command
 returns-clause-app c =
-    let run = with_added _ _ _ _ _ c.in_ok-subcommand.ensures c.program.ensures.app c.in_ok-run.ensures.app c.in_ok-run.ensures.local in
-    let make = with_added _ _ _ _ _ c.in_ok-subcommand-2.ensures run c.in_ok-make.ensures.app c.in_ok-make.ensures.local in
-    let keep = with_added _ _ _ _ _ c.in_ok-subcommand-3.ensures make c.in_ok-keep.ensures.app c.in_ok-keep.ensures.local in
-    let prove = with_added _ _ _ _ _ c.in_ok-subcommand-4.ensures keep c.in_ok-prove.ensures.app c.in_ok-prove.ensures.local in
-    let check = with_added _ _ _ _ _ c.in_ok-subcommand-5.ensures prove c.in_ok-check.ensures.app c.in_ok-check.ensures.local in
-    let storm = with_added _ _ _ _ _ c.in_ok-subcommand-6.ensures check c.in_ok-storm.ensures.app c.in_ok-storm.ensures.local in
-    let ask = with_added _ _ _ _ _ c.in_ok-subcommand-7.ensures storm c.in_ok-ask.ensures.app c.in_ok-ask.ensures.local in
-    let serve = with_added _ _ _ _ _ c.in_ok-subcommand-8.ensures ask c.in_ok-serve.ensures.app c.in_ok-serve.ensures.local in
-    with_added _ _ _ _ _ c.in_ok-whole.ensures serve c.in_ok-take.ensures.app c.in_ok-take.ensures.local
+    let run = with_added _ _ _ _ _ c.in_ok-subcommand.ensures c.program.ensures.app c.in_ok-run_command.ensures.app c.in_ok-run_command.ensures.local in
+    let make = with_added _ _ _ _ _ c.in_ok-subcommand-2.ensures run c.in_ok-make_command.ensures.app c.in_ok-make_command.ensures.local in
+    let keep = with_added _ _ _ _ _ c.in_ok-subcommand-3.ensures make c.in_ok-keep_command.ensures.app c.in_ok-keep_command.ensures.local in
+    let prove = with_added _ _ _ _ _ c.in_ok-subcommand-4.ensures keep c.in_ok-prove_command.ensures.app c.in_ok-prove_command.ensures.local in
+    let check = with_added _ _ _ _ _ c.in_ok-subcommand-5.ensures prove c.in_ok-check_command.ensures.app c.in_ok-check_command.ensures.local in
+    let storm = with_added _ _ _ _ _ c.in_ok-subcommand-6.ensures check c.in_ok-storm_command.ensures.app c.in_ok-storm_command.ensures.local in
+    let ask = with_added _ _ _ _ _ c.in_ok-subcommand-7.ensures storm c.in_ok-ask_command.ensures.app c.in_ok-ask_command.ensures.local in
+    let serve = with_added _ _ _ _ _ c.in_ok-subcommand-8.ensures ask c.in_ok-serve_command.ensures.app c.in_ok-serve_command.ensures.local in
+    with_added _ _ _ _ _ c.in_ok-whole.ensures serve c.in_ok-take_command.ensures.app c.in_ok-take_command.ensures.local
