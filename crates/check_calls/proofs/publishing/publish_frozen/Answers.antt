@@ -8,4 +8,4 @@ pub publish_behind-requires : goal.publish_behind-requires
 publish_behind-requires g c =
     let node = c.args.node.now in
     let is = c.is_node.ensures in
-    subst IsLawfulGraph (sym c.in_ok-frozen.ensures) (node_graph _ node.start.members node.start.coin node.start.own node.history is.coin is.history).graph
+    subst IsLawfulGraph (sym c.in_ok-frozen.ensures.graph) (node_graph _ node.start.members node.start.coin node.start.own node.history is.coin is.history).graph
