@@ -17,6 +17,8 @@ mod bits;
 #[cfg(test)]
 mod blocks;
 #[cfg(test)]
+mod both;
+#[cfg(test)]
 mod branches;
 #[cfg(test)]
 mod counting;
