@@ -21,10 +21,9 @@ impl Both {
     fn new(alloc: Global, stakes: &[u32]) -> Result<Both, Memory>
         requires { length stakes.now ≤ 128 }
     {
-        Ok(Both {
-            sight: BranchSight::new(alloc, stakes)?,
-            bits: BitSight::new(alloc, stakes)?,
-        })
+        let bits = BitSight::new(alloc, stakes)?;
+        let sight = BranchSight::new(alloc, stakes)?;
+        Ok(Both { sight, bits })
     }
 
     /// Adds the row to both, if it fits.
@@ -74,10 +73,15 @@ fn add_forked(both: &mut Both, from: usize, every: usize) -> Result<bool, Memory
     Ok(true)
 }
 
+/// Whether both agree once they have the rows.
+fn agree_with_forked(both: &mut Both, every: usize) -> Result<bool, Memory> {
+    Ok(add_forked(both, 0, every)? && both.agree())
+}
+
 /// Whether both agree on the rows, of which each of so many is kept, or none.
 fn agree_on_forked(alloc: Global, every: usize) -> Result<bool, Memory> {
     let mut both = Both::new(alloc, &[1; 4])?;
-    Ok(add_forked(&mut both, 0, every)? && both.agree())
+    agree_with_forked(&mut both, every)
 }
 
 #[test]

@@ -194,10 +194,14 @@ fn turns_told(sight: &BranchSight, fork: bool) -> bool {
     }
 }
 
+fn turns_in(sight: &mut BranchSight, fork: bool) -> Result<[bool; 3], Memory> {
+    let added = add_turns(sight, fork)?;
+    Ok([added, sight.rows() == 40, turns_told(sight, fork)])
+}
+
 fn counts_turns(alloc: Global, fork: bool) -> Result<[bool; 3], Memory> {
     let mut sight = BranchSight::new(alloc, &[1; 4])?;
-    let added = add_turns(&mut sight, fork)?;
-    Ok([added, sight.rows() == 40, turns_told(&sight, fork)])
+    turns_in(&mut sight, fork)
 }
 
 #[test]

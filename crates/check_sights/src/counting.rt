@@ -1,4 +1,4 @@
-ghost use Rattle.std.specs.Prelude.{◌<◌, length};
+ghost use Rattle.std.specs.Prelude.{◌<◌, ◌≤◌, length};
 
 use crate::growing::add;
 use crate::telling::{equal, holds};
@@ -93,13 +93,26 @@ fn forked(rt: &impl Abort, alloc: Global) -> Result<BranchSight, Memory> {
     Ok(sight)
 }
 
+/// The sight of the first rows has them, and each number of them.
+fn first_match(rt: &impl Abort, sight: &BranchSight, len: usize) -> Result<(), Memory>
+    requires { len ≤ length sight.now.shape.links }
+{
+    matches(rt, &sight.prefix(len)?, len);
+    Ok(())
+}
+
+/// So do all such sights.
+fn all_firsts_match(rt: &impl Abort, sight: &BranchSight) -> Result<(), Memory> {
+    for len in 0..13 {
+        assert!(rt; len <= sight.rows());
+        first_match(rt, sight, len)?;
+    }
+    Ok(())
+}
+
 #[test]
 fn counts_the_last_ancestor_on_each_branch(rt: HostRuntime) -> Result<(), Memory> {
     let sight = forked(&rt, rt.alloc())?;
     matches(&rt, &sight, 12);
-    for len in 0..13 {
-        assert!(rt; len <= sight.rows());
-        matches(&rt, &sight.prefix(len)?, len);
-    }
-    Ok(())
+    all_firsts_match(&rt, &sight)
 }

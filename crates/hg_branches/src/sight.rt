@@ -79,19 +79,24 @@ impl BranchSight {
         ensures { IfOk result (λ s. s.shape ≡ shape_of stakes.now []) }
     {
         let members = stakes.len();
+        let table = StakeTable::new(alloc, stakes)?;
+        let makers = own_branches(alloc, members)?;
+        let ends = zeros(alloc, members)?;
+        let newest = zeros(alloc, members)?;
+        let tops = Tops::new(alloc, members)?;
         Ok(BranchSight {
             alloc,
-            stakes: StakeTable::new(alloc, stakes)?,
+            stakes: table,
             links: Blocks::new(alloc),
             branches: Blocks::new(alloc),
-            makers: own_branches(alloc, members)?,
+            makers,
             several: 0,
-            ends: zeros(alloc, members)?,
+            ends,
             counts: CountTable::new(alloc, members),
             forked: Blocks::new(alloc),
             landmarks: Vec::new(alloc),
-            newest: zeros(alloc, members)?,
-            tops: Tops::new(alloc, members)?,
+            newest,
+            tops,
             numbers: Vec::new(alloc),
             wide: false,
             ready: false,
@@ -358,19 +363,28 @@ impl Growing for BranchSight {
 
     fn prefix(&self, len: usize) -> Result<BranchSight, Memory> {
         let many = self.makers.len().min(self.stakes.len() + len);
+        let stakes = self.stakes.copy(self.alloc)?;
+        let makers = Vec::from_slice(self.alloc, &self.makers[..many])?;
+        let ends = ends_within(self.alloc, &self.ends[..many], len as u32)?;
+        let newest = zeros(self.alloc, many)?;
+        let tops = Tops::new(self.alloc, many)?;
+        let links = self.links.cloned_prefix(len)?;
+        let branches = self.branches.prefix(len)?;
+        let forked = self.forked.prefix(len)?;
+        let counts = self.counts.prefix(self.alloc, len)?;
         Ok(BranchSight {
             alloc: self.alloc,
-            stakes: self.stakes.copy(self.alloc)?,
-            links: self.links.cloned_prefix(len)?,
-            branches: self.branches.prefix(len)?,
-            makers: Vec::from_slice(self.alloc, &self.makers[..many])?,
+            stakes,
+            links,
+            branches,
+            makers,
             several: self.several,
-            ends: ends_within(self.alloc, &self.ends[..many], len as u32)?,
-            counts: self.counts.prefix(self.alloc, len)?,
-            forked: self.forked.prefix(len)?,
+            ends,
+            counts,
+            forked,
             landmarks: Vec::new(self.alloc),
-            newest: zeros(self.alloc, many)?,
-            tops: Tops::new(self.alloc, many)?,
+            newest,
+            tops,
             numbers: Vec::new(self.alloc),
             wide: self.wide,
             ready: false,

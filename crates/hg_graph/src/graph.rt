@@ -59,12 +59,15 @@ impl EventGraph {
         requires coin { 2 < coin }
         ensures { IfOk result (λ g. g.graph ≡ graph_of stakes.now coin []) }
     {
+        let watch = Watch::new(alloc, stakes)?;
+        let rounds = RoundTable::new(alloc)?;
+        let sight = NodeSight::new(alloc, stakes)?;
         Ok(EventGraph {
             coin,
             store: RowStore::new(alloc),
-            sight: NodeSight::new(alloc, stakes)?,
-            watch: Watch::new(alloc, stakes)?,
-            rounds: RoundTable::new(alloc)?,
+            sight,
+            watch,
+            rounds,
         })
     }
 

@@ -68,12 +68,14 @@ impl Chronicle {
         ensures { IfOk result (λ c. c ≡ no_chronicle members.now own limit) }
     {
         let stakes = members.stakes(alloc)?;
+        let ledger = Ledger::new(alloc, members)?;
+        let graph = EventGraph::new(alloc, stakes.as_slice(), members.coin())?;
         Ok(Chronicle {
             own,
             limit,
-            graph: EventGraph::new(alloc, stakes.as_slice(), members.coin())?,
+            graph,
             kept: Kept::new(alloc, members.count()),
-            ledger: Ledger::new(alloc, members)?,
+            ledger,
             last_own: None,
             log: Vec::new(alloc),
             votes: VoteTable::empty(alloc),
