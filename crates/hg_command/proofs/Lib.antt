@@ -1,3 +1,4 @@
 pub mod Readings
 pub mod Simple
 mod Worked
+pub mod Turns

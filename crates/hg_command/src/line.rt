@@ -1,13 +1,106 @@
 ghost use Rattle.std.specs.Prelude.{◌≡◌, false, IfOk};
-ghost use Rattle.clap.specs.Words.{app_of, rule_of};
+ghost use Rattle.clap.specs.Words.{app_of, rule_of, with_rule, with_subcommand};
 ghost use Rattle.clap.specs.declared.builder.Command.TheViews.{out-Command};
 ghost use Rattle.hg_command.specs.Asked as asked;
-ghost use Rattle.hg_command.specs.Asked.{app_for};
 ghost use Rattle.hg_command.specs.Line as line;
+ghost use Rattle.hg_command.specs.Table.{app_by, rule_as};
 
 use clap::builder::ValueParser;
 use clap::{Arg, Command};
 use std::alloc::{AllocError, Global};
+
+/// What an option takes.
+#[derive(Clone, Copy)]
+pub enum Takes {
+    /// A text, as the name of a file; it must be given.
+    Text,
+    /// A whole number of 32 bits.
+    Number,
+    /// Such a number, which must be given.
+    Count,
+    /// A wide number, of 64 bits.
+    Wide,
+    /// A wide number, which must be given.
+    Seed,
+}
+
+/// Each command: its name, and the names of its options with what they take.
+const COMMANDS: [(&str, &[(&str, Takes)]); 9] = [
+    (
+        "run",
+        &[
+            ("members", Takes::Text),
+            ("script", Takes::Text),
+            ("workers", Takes::Number),
+        ],
+    ),
+    (
+        "make",
+        &[
+            ("members", Takes::Count),
+            ("lines", Takes::Count),
+            ("seed", Takes::Seed),
+            ("workers", Takes::Number),
+        ],
+    ),
+    (
+        "keep",
+        &[
+            ("members", Takes::Text),
+            ("events", Takes::Text),
+            ("own", Takes::Text),
+            ("disk", Takes::Text),
+            ("time", Takes::Wide),
+        ],
+    ),
+    (
+        "prove",
+        &[
+            ("members", Takes::Text),
+            ("script", Takes::Text),
+            ("own", Takes::Text),
+        ],
+    ),
+    (
+        "check",
+        &[("members", Takes::Text), ("proof", Takes::Text)],
+    ),
+    (
+        "storm",
+        &[
+            ("members", Takes::Text),
+            ("turns", Takes::Count),
+            ("seed", Takes::Seed),
+            ("room", Takes::Number),
+        ],
+    ),
+    (
+        "ask",
+        &[
+            ("members", Takes::Text),
+            ("script", Takes::Text),
+            ("own", Takes::Text),
+        ],
+    ),
+    (
+        "serve",
+        &[
+            ("members", Takes::Text),
+            ("script", Takes::Text),
+            ("own", Takes::Text),
+            ("have", Takes::Text),
+        ],
+    ),
+    (
+        "take",
+        &[
+            ("members", Takes::Text),
+            ("script", Takes::Text),
+            ("own", Takes::Text),
+            ("rows", Takes::Text),
+        ],
+    ),
+];
 
 /// An option that must be given, and takes a text, as the name of a file.
 fn text_option<'a>(alloc: Global, name: &'a str) -> Arg<'a>
@@ -53,117 +146,64 @@ fn seed_option<'a>(alloc: Global, name: &'a str) -> Arg<'a>
     wide_option(alloc, name).required(true)
 }
 
-/// `run --members FILE --script FILE [--workers K]`
-fn run_command<'a>(alloc: Global) -> Result<Command<'a>, AllocError>
-    ensures app { IfOk result (λ c. app_of c ≡ app_for asked.run_command) }
-    ensures local { IfOk result (λ c. (out-Command c).has_globals ≡ false) }
+/// An option of this name.
+fn option_of<'a>(alloc: Global, name: &'a str, takes: Takes) -> Arg<'a>
+    ensures rule { rule_of result ≡ rule_as takes name.entry.now }
+    ensures local { result.global ≡ false }
 {
-    let run = Command::new(alloc, "run")
-        .arg(text_option(alloc, "members"))?
-        .arg(text_option(alloc, "script"))?
-        .arg(number_option(alloc, "workers"))?;
-    Ok(run)
+    match takes {
+        Takes::Text => text_option(alloc, name),
+        Takes::Number => number_option(alloc, name),
+        Takes::Count => count_option(alloc, name),
+        Takes::Wide => wide_option(alloc, name),
+        Takes::Seed => seed_option(alloc, name),
+    }
 }
 
-/// `make --members N --lines L --seed S [--workers K]`
-fn make_command<'a>(alloc: Global) -> Result<Command<'a>, AllocError>
-    ensures app { IfOk result (λ c. app_of c ≡ app_for asked.make_command) }
+/// The command with one more option.
+fn with_option<'a>(
+    alloc: Global,
+    command: Command<'a>,
+    name: &'a str,
+    takes: Takes,
+) -> Result<Command<'a>, AllocError>
+    requires { (out-Command command).has_globals ≡ false }
+    ensures app { IfOk result (λ c. app_of c ≡ with_rule (app_of command.entry) (rule_as takes name.entry.now)) }
     ensures local { IfOk result (λ c. (out-Command c).has_globals ≡ false) }
 {
-    let make = Command::new(alloc, "make")
-        .arg(count_option(alloc, "members"))?
-        .arg(count_option(alloc, "lines"))?
-        .arg(seed_option(alloc, "seed"))?
-        .arg(number_option(alloc, "workers"))?;
-    Ok(make)
+    let more = command.arg(option_of(alloc, name, takes))?;
+    Ok(more)
 }
 
-/// `keep --members FILE --events FILE --own NAME --disk FILE [--time T]`
-fn keep_command<'a>(alloc: Global) -> Result<Command<'a>, AllocError>
-    ensures app { IfOk result (λ c. app_of c ≡ app_for asked.keep_command) }
+/// A command of this name, with these options.
+fn command_of<'a>(
+    alloc: Global,
+    name: &'a str,
+    options: &[(&'a str, Takes)],
+) -> Result<Command<'a>, AllocError>
+    ensures app { IfOk result (λ c. app_of c ≡ app_by name.entry.now options.now) }
     ensures local { IfOk result (λ c. (out-Command c).has_globals ≡ false) }
 {
-    let keep = Command::new(alloc, "keep")
-        .arg(text_option(alloc, "members"))?
-        .arg(text_option(alloc, "events"))?
-        .arg(text_option(alloc, "own"))?
-        .arg(text_option(alloc, "disk"))?
-        .arg(wide_option(alloc, "time"))?;
-    Ok(keep)
+    let mut command = Command::new(alloc, name);
+    for (option, takes) in options {
+        command = with_option(alloc, command, option, *takes)?;
+    }
+    Ok(command)
 }
 
-/// `prove --members FILE --script FILE --own NAME`
-fn prove_command<'a>(alloc: Global) -> Result<Command<'a>, AllocError>
-    ensures app { IfOk result (λ c. app_of c ≡ app_for asked.prove_command) }
+/// The program with one more command, of this name, with these options.
+fn with_command<'a>(
+    alloc: Global,
+    program: Command<'a>,
+    name: &'a str,
+    options: &[(&'a str, Takes)],
+) -> Result<Command<'a>, AllocError>
+    requires { (out-Command program).has_globals ≡ false }
+    ensures app { IfOk result (λ c. app_of c ≡ with_subcommand (app_of program.entry) (app_by name.entry.now options.now).top) }
     ensures local { IfOk result (λ c. (out-Command c).has_globals ≡ false) }
 {
-    let prove = Command::new(alloc, "prove")
-        .arg(text_option(alloc, "members"))?
-        .arg(text_option(alloc, "script"))?
-        .arg(text_option(alloc, "own"))?;
-    Ok(prove)
-}
-
-/// `check --members FILE --proof FILE`
-fn check_command<'a>(alloc: Global) -> Result<Command<'a>, AllocError>
-    ensures app { IfOk result (λ c. app_of c ≡ app_for asked.check_command) }
-    ensures local { IfOk result (λ c. (out-Command c).has_globals ≡ false) }
-{
-    let check = Command::new(alloc, "check")
-        .arg(text_option(alloc, "members"))?
-        .arg(text_option(alloc, "proof"))?;
-    Ok(check)
-}
-
-/// `storm --members FILE --turns T --seed S [--room R]`
-fn storm_command<'a>(alloc: Global) -> Result<Command<'a>, AllocError>
-    ensures app { IfOk result (λ c. app_of c ≡ app_for asked.storm_command) }
-    ensures local { IfOk result (λ c. (out-Command c).has_globals ≡ false) }
-{
-    let storm = Command::new(alloc, "storm")
-        .arg(text_option(alloc, "members"))?
-        .arg(count_option(alloc, "turns"))?
-        .arg(seed_option(alloc, "seed"))?
-        .arg(number_option(alloc, "room"))?;
-    Ok(storm)
-}
-
-/// `ask --members FILE --script FILE --own NAME`
-fn ask_command<'a>(alloc: Global) -> Result<Command<'a>, AllocError>
-    ensures app { IfOk result (λ c. app_of c ≡ app_for asked.ask_command) }
-    ensures local { IfOk result (λ c. (out-Command c).has_globals ≡ false) }
-{
-    let ask = Command::new(alloc, "ask")
-        .arg(text_option(alloc, "members"))?
-        .arg(text_option(alloc, "script"))?
-        .arg(text_option(alloc, "own"))?;
-    Ok(ask)
-}
-
-/// `serve --members FILE --script FILE --own NAME --have FILE`
-fn serve_command<'a>(alloc: Global) -> Result<Command<'a>, AllocError>
-    ensures app { IfOk result (λ c. app_of c ≡ app_for asked.serve_command) }
-    ensures local { IfOk result (λ c. (out-Command c).has_globals ≡ false) }
-{
-    let serve = Command::new(alloc, "serve")
-        .arg(text_option(alloc, "members"))?
-        .arg(text_option(alloc, "script"))?
-        .arg(text_option(alloc, "own"))?
-        .arg(text_option(alloc, "have"))?;
-    Ok(serve)
-}
-
-/// `take --members FILE --script FILE --own NAME --rows FILE`
-fn take_command<'a>(alloc: Global) -> Result<Command<'a>, AllocError>
-    ensures app { IfOk result (λ c. app_of c ≡ app_for asked.take_command) }
-    ensures local { IfOk result (λ c. (out-Command c).has_globals ≡ false) }
-{
-    let take = Command::new(alloc, "take")
-        .arg(text_option(alloc, "members"))?
-        .arg(text_option(alloc, "script"))?
-        .arg(text_option(alloc, "own"))?
-        .arg(text_option(alloc, "rows"))?;
-    Ok(take)
+    let more = program.subcommand(command_of(alloc, name, options)?)?;
+    Ok(more)
 }
 
 /// The program before it has commands: one of them is required, and nothing asks for help.
@@ -182,15 +222,9 @@ pub(crate) fn command<'a>(alloc: Global) -> Result<Command<'a>, AllocError>
     ensures app { IfOk result (λ c. app_of c ≡ asked.command) }
     ensures local { IfOk result (λ c. (out-Command c).has_globals ≡ false) }
 {
-    let whole = program(alloc)
-        .subcommand(run_command(alloc)?)?
-        .subcommand(make_command(alloc)?)?
-        .subcommand(keep_command(alloc)?)?
-        .subcommand(prove_command(alloc)?)?
-        .subcommand(check_command(alloc)?)?
-        .subcommand(storm_command(alloc)?)?
-        .subcommand(ask_command(alloc)?)?
-        .subcommand(serve_command(alloc)?)?
-        .subcommand(take_command(alloc)?)?;
+    let mut whole = program(alloc);
+    for (name, options) in &COMMANDS {
+        whole = with_command(alloc, whole, name, options)?;
+    }
     Ok(whole)
 }

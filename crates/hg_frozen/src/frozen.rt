@@ -13,12 +13,26 @@ use std::marker::Model;
 use std::sync::Arc;
 
 /// Rows of a graph, with their sight and their rounds.
-#[derive(Drop)]
 pub struct Frozen<S: Sight, R: Rounds> {
     coin: u32,
     rows: Blocks<SharedEvent>,
     sight: S,
     rounds: R,
+}
+
+// Written out, so that the drop of a frozen graph is a call, which is proved once.
+impl<S: Sight + Drop, R: Rounds + Drop> Drop for Frozen<S, R> {
+    fn drop(self) {
+        let Frozen {
+            coin: _,
+            rows,
+            sight,
+            rounds,
+        } = self;
+        drop(rows);
+        drop(sight);
+        drop(rounds);
+    }
 }
 
 impl<S: Sight, R: Rounds> Model for Frozen<S, R> {

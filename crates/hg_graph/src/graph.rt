@@ -29,13 +29,29 @@ type NodeSight = BranchSight;
 pub type FrozenGraph = Frozen<NodeSight, RoundTable>;
 
 /// A node's graph. Those of its members that have a fork have less than a third of the stake, and each row is an event.
-#[derive(Drop)]
 pub struct EventGraph {
     coin: u32,
     store: RowStore,
     sight: NodeSight,
     watch: Watch,
     rounds: RoundTable,
+}
+
+// Written out, so that the drop of a graph is a call, which is proved once.
+impl Drop for EventGraph {
+    fn drop(self) {
+        let EventGraph {
+            coin: _,
+            store,
+            sight,
+            watch,
+            rounds,
+        } = self;
+        drop(store);
+        drop(sight);
+        drop(watch);
+        drop(rounds);
+    }
 }
 
 impl Model for EventGraph {

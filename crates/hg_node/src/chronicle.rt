@@ -27,7 +27,6 @@ use std::sync::Arc;
 
 /// The rows of a member's node, the log of how they came, what is published of them, the ledger of the order that they
 /// have got, and the place of the last one that the member made.
-#[derive(Drop)]
 pub struct Chronicle {
     own: Member,
     /// How many rows it takes at most.
@@ -40,6 +39,27 @@ pub struct Chronicle {
     log: Vec<Entry>,
     /// Of as many first rows as there were when the fame was last decided.
     votes: VoteTable,
+}
+
+// Written out, so that the drop of a node's rows is a call, which is proved once.
+impl Drop for Chronicle {
+    fn drop(self) {
+        let Chronicle {
+            own: _,
+            limit: _,
+            graph,
+            kept,
+            ledger,
+            last_own: _,
+            log,
+            votes,
+        } = self;
+        drop(graph);
+        drop(kept);
+        drop(ledger);
+        drop(log);
+        drop(votes);
+    }
 }
 
 impl Model for Chronicle {

@@ -31,7 +31,6 @@ use std::snapshot::Snapshot;
 use std::sync::Arc;
 
 /// The members' nodes, each with what its workers have frozen.
-#[derive(Drop)]
 pub struct World {
     alloc: Global,
     /// The first member's node as it was when the world began, for contracts: its members and coin period are the world's.
@@ -41,6 +40,23 @@ pub struct World {
     known: Known,
     /// Empty, with room for all nodes: to give them back takes no memory.
     spare: Vec<Node<SharedTable>>,
+}
+
+// Written out, so that the drop of a world is a call, which is proved once.
+impl Drop for World {
+    fn drop(self) {
+        let World {
+            alloc: _,
+            first,
+            sites,
+            known,
+            spare,
+        } = self;
+        drop(first);
+        drop(sites);
+        drop(known);
+        drop(spare);
+    }
 }
 
 impl Model for World {
@@ -273,7 +289,15 @@ impl World {
         ensures lawful { AreOfOneList result.0.items }
         ensures known { KeepsKnown (rows_of_each result.0.items) result.1 }
     {
-        (into_nodes(self.sites, self.spare), self.known)
+        let World {
+            alloc: _,
+            first,
+            sites,
+            known,
+            spare,
+        } = self;
+        drop(first);
+        (into_nodes(sites, spare), known)
     }
 
     /// A world of these nodes, of which no worker has frozen any rows: one for each of the members with which the first
