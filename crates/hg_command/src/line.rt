@@ -61,10 +61,7 @@ const COMMANDS: [(&str, &[(&str, Takes)]); 9] = [
             ("own", Takes::Text),
         ],
     ),
-    (
-        "check",
-        &[("members", Takes::Text), ("proof", Takes::Text)],
-    ),
+    ("check", &[("members", Takes::Text), ("proof", Takes::Text)]),
     (
         "storm",
         &[
