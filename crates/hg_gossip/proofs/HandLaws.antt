@@ -18,7 +18,7 @@ use Rattle.hg_model.specs.Links.{no_row}
 use Rattle.hg_model.specs.Orders.{IsPrefix}
 use Rattle.hg_graph.specs.RowsWithRoom.{rows_of}
 use Rattle.hg_gossip.specs.Holding.{row_names}
-use Rattle.hg_gossip.specs.Handing.{AreKnown, HeardView, Knows, all_heard, none_heard, unheld}
+use Rattle.hg_gossip.specs.Handing.{AreInside, AreKnown, HeardView, Knows, all_heard, none_heard, rows_at, unheld}
 use Rattle.hg_gossip.proofs.RowLaws.{held_is}
 
 or_more : (a b : Bool) → a ≡ true → (a || b) ≡ true
@@ -219,3 +219,34 @@ rows_joined first events old new i event copy low is same so_far pushed =
     ∙ (ap₂ (λ (rows : List Row) (row : Row). rows ++ row ∷ []) so_far same
     ∙ (append_assoc first (rows_of (take i events)) (event.value ∷ [])
     ∙ ap (λ (rows : List Row). first ++ rows) (sym (ap rows_of (taken_more events i event low is) ∙ map-append (λ e. e.value) (take i events) (event ∷ []))))))
+
+-- with one place more its row is there too
+pub rows_at_more : (H : List Row) (xs : List ℕ) (x : ℕ) (row : Row) → slice_get H x ≡ Some row → rows_at H (xs ++ x ∷ []) ≡ rows_at H xs ++ row ∷ []
+rows_at_more H xs x row at =
+    map-append (λ y. get_or H y no_row) xs (x ∷ []) ∙ ap (λ (r : Row). rows_at H xs ++ r ∷ []) (get_or_from_slice_get H x row no_row at)
+
+pub inside_more : (H : List Row) (xs : List ℕ) (x : ℕ) → AreInside H xs → x < length H → AreInside H (xs ++ x ∷ [])
+inside_more H [] x inside low = (low, tt)
+inside_more H (y ∷ xs) x inside low = (inside.0, inside_more H xs x inside.1 low)
+
+-- a place was pushed whose row is lacked
+pub pushes_place : (G H : List Row) (old new : List ℕ) (x : ℕ) (row : Row) → slice_get H x ≡ Some row → is_held G row.name ≡ false → new ≡ old ++ x ∷ [] →
+    option_map (λ (r : Row). rows_at H old ++ unheld G r) (slice_get H x) ≡ Some (rows_at H new)
+pushes_place G H old new x row at lacked pushed =
+    ap (option_map (λ (r : Row). rows_at H old ++ unheld G r)) at
+    ∙ ap (λ (rows : List Row). Some rows)
+    (ap (λ (b : Bool). rows_at H old ++ cond b [] (row ∷ [])) lacked
+    ∙ (sym (rows_at_more H old x row at) ∙ sym (ap (rows_at H) pushed)))
+
+-- one event more, of the place before
+pub events_more : {A : Type 0} (H : List Row) (places : List ℕ) (k : ℕ) (old new : List (Arc Row A)) (event : Arc Row A) → k < length places →
+    slice_get H (get_or places k 0) ≡ Some event.value → rows_of old ≡ reverse (rows_at H (drop (k + 1) places)) → new ≡ old ++ event ∷ [] → rows_of new ≡ reverse (rows_at H (drop k places))
+events_more H places k old new event inside at so_far pushed =
+    let rest : List Row = rows_at H (drop (k + 1) places) in
+    let first : drop k places ≡ get_or places k 0 ∷ drop (k + 1) places = rw (add-one) (drop-cons places k 0 inside) in
+    ap rows_of pushed
+    ∙ (map-append (λ e. e.value) old (event ∷ [])
+    ∙ (ap (λ (rows : List Row). rows ++ event.value ∷ []) so_far
+    ∙ (sym (reverse_onto rest event.value [])
+    ∙ ap (λ (rows : List Row). reverse rows)
+    (ap (λ (r : Row). r ∷ rest) (sym (get_or_from_slice_get H (get_or places k 0) event.value no_row at)) ∙ sym (ap (rows_at H) first)))))

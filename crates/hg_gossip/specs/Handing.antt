@@ -1,8 +1,9 @@
 -- What a peer hands over to a node that has heard of some of its rows before: the events whose names the node lacks
-use Rattle.std.specs.Prelude.{ℕ, ◌≡◌, ◌≤◌, true, cond, List, [], ◌∷◌, ◌++◌, length, take, drop, reverse, slice_get, Option, Some, option_map}
+use Rattle.std.specs.Prelude.{ℕ, ◌≡◌, ◌<◌, ◌≤◌, true, cond, List, [], ◌∷◌, ◌++◌, length, take, drop, reverse, get_or, map, slice_get, Option, Some, option_map}
 use Rattle.std.specs.List.{AllByRecursion}
 use Rattle.hg_model.specs.declared.row.Row.{Row}
 use Rattle.hg_model.specs.Held.{lacking, is_held}
+use Rattle.hg_model.specs.Links.{no_row}
 use Rattle.hg_life.specs.NodeView.{NodeView, node_rows}
 
 -- G has the names of all these rows
@@ -40,6 +41,14 @@ unheld held row = cond (is_held held row.name) [] (row ∷ [])
 -- these and the peer's row at a place, unless the taker has its name; nothing where there is no row
 abbrev pub with_lacked : List Row → List Row → ℕ → List Row → Option (List Row)
 with_lacked taker peer place rows = option_map (λ (row : Row). rows ++ unheld taker row) (slice_get peer place)
+
+-- the rows at these places
+abbrev pub rows_at : List Row → List ℕ → List Row
+rows_at rows = map (λ x. get_or rows x no_row)
+
+-- there are rows at all these places
+abbrev pub AreInside : List Row → List ℕ → Type 0
+AreInside rows = AllByRecursion (λ x. x < length rows)
 
 -- the peer's row at a place was pushed behind these, unless the taker has its name
 abbrev pub PushesLacked : {K L : Type 0} → NodeView K → NodeView L → ℕ → List Row → List Row → Type 0

@@ -1,8 +1,8 @@
-ghost use Rattle.std.specs.Prelude.{◌≡◌, ◌++◌, ◌<◌, ◌≤◌, IfOk, OnOk, Some, is_some, length, slice_get};
+ghost use Rattle.std.specs.Prelude.{◌≡◌, ◌++◌, ◌<◌, ◌≤◌, IfOk, OnOk, Some, is_some, length, reverse, slice_get};
 ghost use Rattle.hg_model.specs.Held.{lacking, is_held};
 ghost use Rattle.hg_life.specs.NodeView.{node_rows};
 ghost use Rattle.hg_graph.specs.RowsWithRoom.{rows_of};
-ghost use Rattle.hg_gossip.specs.Handing.{Knows, PushesLacked, PushesUnheld, lacked_backwards, lacked_behind};
+ghost use Rattle.hg_gossip.specs.Handing.{AreInside, Knows, PushesLacked, PushesUnheld, lacked_backwards, lacked_behind, rows_at};
 
 use hg_event::Event;
 use hg_model::{Member, Memory, Name, Sight};
@@ -92,40 +92,62 @@ fn is_held_near<V: Signer>(taker: &Node<V>, name: &Name, member: Member, marks: 
     place.is_some()
 }
 
-/// The event of a row of the peer behind the others, unless the taker has its name.
+/// The place of a row of the peer behind the others, unless the taker has its name.
 fn push_unless_held<V: Signer, W: Signer>(
-    events: &mut Vec<Arc<Event>>,
+    places: &mut Vec<usize>,
     taker: &Node<V>,
     peer: &Node<W>,
     place: usize,
     marks: &mut Marks,
 ) -> Result<(), Memory>
-    requires { place < length (node_rows peer.now) }
-    ensures { OnOk result (PushesLacked taker.now peer.now place (rows_of events.old.items) (rows_of events.new.items)) }
+    requires place { place < length (node_rows peer.now) }
+    requires inside { AreInside (node_rows peer.now) places.old.items }
+    ensures pushed { OnOk result (PushesLacked taker.now peer.now place (rows_at (node_rows peer.now) places.old.items) (rows_at (node_rows peer.now) places.new.items)) }
+    ensures inside { AreInside (node_rows peer.now) places.new.items }
 {
     if !is_held_near(taker, &peer.row(place).name, maker(peer, place), marks) {
-        events.push(event_at(peer, place)?)?;
+        places.push(place)?;
     }
     Ok(())
 }
 
-/// The events of the peer from this place on whose names the taker lacks, the last one first: so each member's line is
+/// The places from this one on of the peer's rows whose names the taker lacks, the last one first: so each member's line is
 /// walked down in both graphs, and of what the taker has hardly a name is looked up.
 fn lacked_backwards<V: Signer, W: Signer>(
     alloc: Global,
     taker: &Node<V>,
     peer: &Node<W>,
     from: usize,
-) -> Result<Vec<Arc<Event>>, Memory>
+) -> Result<Vec<usize>, Memory>
     requires { from ≤ length (node_rows peer.now) }
-    ensures { IfOk result (λ events. rows_of events.items ≡ lacked_backwards taker.now peer.now from) }
+    ensures rows { IfOk result (λ places. rows_at (node_rows peer.now) places.items ≡ lacked_backwards taker.now peer.now from) }
+    ensures inside { IfOk result (λ places. AreInside (node_rows peer.now) places.items) }
 {
-    let mut events = Vec::with_capacity(alloc, (peer.rows() - from).min(USUAL_ROWS))?;
+    let mut places = Vec::with_capacity(alloc, (peer.rows() - from).min(USUAL_ROWS))?;
     let mut marks = [usize::MAX; 128];
     let mut place = peer.rows();
     'places: while from < place {
         place -= 1;
-        push_unless_held(&mut events, taker, peer, place, &mut marks)?;
+        push_unless_held(&mut places, taker, peer, place, &mut marks)?;
+    }
+    Ok(places)
+}
+
+/// The events of a node at these places, the last one first. An event is shared only once all places are known, so that no
+/// look-up waits for a count of owners.
+fn events_backwards<V: Signer>(
+    alloc: Global,
+    node: &Node<V>,
+    places: &[usize],
+) -> Result<Vec<Arc<Event>>, Memory>
+    requires { AreInside (node_rows node.now) places.now }
+    ensures { IfOk result (λ events. rows_of events.items ≡ reverse (rows_at (node_rows node.now) places.now)) }
+{
+    let mut events = Vec::with_capacity(alloc, places.len())?;
+    let mut left = places.len();
+    'events: while left > 0 {
+        left -= 1;
+        events.push(event_at(node, places[left])?)?;
     }
     Ok(events)
 }
@@ -170,9 +192,8 @@ fn lacked_behind<V: Signer, W: Signer>(
     requires { from ≤ length (node_rows peer.now) }
     ensures { IfOk result (λ events. rows_of events.items ≡ lacked_behind taker.now peer.now from) }
 {
-    let mut events = lacked_backwards(alloc, taker, peer, from)?;
-    events.reverse();
-    Ok(events)
+    let places = lacked_backwards(alloc, taker, peer, from)?;
+    events_backwards(alloc, peer, places.as_slice())
 }
 
 /// The events, and then the others.
