@@ -50,9 +50,10 @@ rows_at rows = map (λ x. get_or rows x no_row)
 abbrev pub AreInside : List Row → List ℕ → Type 0
 AreInside rows = AllByRecursion (λ x. x < length rows)
 
--- the peer's row at a place was pushed behind these, unless the taker has its name
-abbrev pub PushesLacked : {K L : Type 0} → NodeView K → NodeView L → ℕ → List Row → List Row → Type 0
-PushesLacked taker peer place old new = with_lacked (node_rows taker) (node_rows peer) place old ≡ Some new
+-- this place of the peer was pushed behind these, unless the taker has its row's name
+abbrev pub PushesLacked : {K L : Type 0} → NodeView K → NodeView L → ℕ → List ℕ → List ℕ → Type 0
+PushesLacked taker peer place old new =
+    with_lacked (node_rows taker) (node_rows peer) place (rows_at (node_rows peer) old) ≡ Some (rows_at (node_rows peer) new)
 
 -- the row was pushed behind these, unless the taker has its name
 abbrev pub PushesUnheld : {K : Type 0} → NodeView K → Row → List Row → List Row → Type 0

@@ -102,7 +102,7 @@ fn push_unless_held<V: Signer, W: Signer>(
 ) -> Result<(), Memory>
     requires place { place < length (node_rows peer.now) }
     requires inside { AreInside (node_rows peer.now) places.old.items }
-    ensures pushed { OnOk result (PushesLacked taker.now peer.now place (rows_at (node_rows peer.now) places.old.items) (rows_at (node_rows peer.now) places.new.items)) }
+    ensures pushed { OnOk result (PushesLacked taker.now peer.now place places.old.items places.new.items) }
     ensures inside { AreInside (node_rows peer.now) places.new.items }
 {
     if !is_held_near(taker, &peer.row(place).name, maker(peer, place), marks) {
