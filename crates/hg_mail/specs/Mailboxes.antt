@@ -1,5 +1,5 @@
 -- A mailbox and its ports as callers see them, and what the calls promise
-use Rattle.std.specs.Prelude.{◌≡◌, ℕ, ◌+◌, ◌≤◌, List, Option}
+use Rattle.std.specs.Prelude.{◌≡◌, ℕ, ◌+◌, ◌≤◌, List, Option, length}
 use Rattle.atomic_table.specs.Seated.{TableId}
 use Rattle.atomic_table.specs.declared.shared.Seat.{Seat}
 use Rattle.crossbeam_queue.specs.declared.array_queue.Doing.{Doing}
@@ -12,8 +12,7 @@ use Rattle.hg_mail.specs.declared.view.View.{View}
 use Rattle.hg_mail.specs.declared.view.CountView.{CountView}
 use Rattle.hg_mail.specs.Messages as mail
 use Rattle.hg_mail.specs.Messages.{Puts, first_view, joined_view, spent_view}
-use Rattle.hg_mail.specs.Rule.{HeldAt}
-use Rattle.hg_mail.specs.Count.{after_part, collecting, first_count, joined_count, one_part, seeing, spent_count}
+use Rattle.hg_mail.specs.Count.{after_part, first_count, joined_count, one_part, seeing, spent_count}
 
 -- a mailbox: the tables of its queue and of its count, and for how many messages it has room
 pub record MailboxView : Type 0 where
@@ -36,35 +35,35 @@ mailbox_of queue table = record { queue = queue.table.shared.table_id; table = t
 
 -- the port is one of this mailbox
 abbrev pub IsPortOf : MailboxView → PortView → Type 0
-IsPortOf m p = (p.queue ≡ m.queue) × (p.table ≡ m.table)
+IsPortOf m p = (p.queue ≡ m.queue) × (p.table ≡ m.table) × (p.count.room ≡ m.room)
 
 -- an empty mailbox, and its first port
 pub record IsOpened (places : ℕ) (m : MailboxView) (p : PortView) : Type 0 where
   pub of : IsPortOf m p
   pub room : m.room ≡ places
   pub view : p.view ≡ first_view
-  pub count : p.count ≡ first_count
+  pub count : p.count ≡ first_count places
 
 -- the port of the next sender was given out, and is this
 abbrev pub after_issue : PortView → PortView
 after_issue p = record p { view = mail.after_issue p.view; count = after_part p.count }
 
 abbrev pub issued : PortView → PortView
-issued p = record p { view = mail.issued p.view; count = one_part }
+issued p = record p { view = mail.issued p.view; count = one_part p.count.room }
 
 -- the receiver's port was given out, and is this
 abbrev pub after_hand : PortView → PortView
 after_hand p = record p { view = mail.after_hand p.view; count = after_part p.count }
 
 abbrev pub handed : PortView → PortView
-handed p = record p { view = mail.handed p.view; count = one_part }
+handed p = record p { view = mail.handed p.view; count = one_part p.count.room }
 
 -- the rights of both, and their shares of the count; the other one keeps none
 abbrev pub joined : PortView → PortView → PortView
 joined p q = record p { view = joined_view p.view q.view; count = joined_count p.count q.count }
 
 abbrev pub spent : PortView → PortView
-spent p = record p { view = spent_view; count = spent_count }
+spent p = record p { view = spent_view; count = spent_count p.count.room }
 
 -- so many were found to be counted
 abbrev pub after_looking : PortView → ℕ → PortView
@@ -74,9 +73,23 @@ after_looking p found = record p { count = seeing p.count found }
 abbrev pub after_taking : PortView → List Message → PortView
 after_taking p taken = record p { view = mail.after_taking p.view taken }
 
--- .. by a call that collects, which the port counts
-abbrev pub after_collecting : PortView → List Message → PortView
-after_collecting p taken = record p { view = mail.after_taking p.view taken; count = collecting p.count }
+-- .. by a call that collects: the port notes them, and they are all that were counted when it began, and not noted before, or as
+-- many as there is room for, which it counts
+pub record Collects (p : PortView) (taken : List Message) (q : PortView) : Type 0 where
+  pub queue : q.queue ≡ p.queue
+  pub table : q.table ≡ p.table
+  pub room : q.count.room ≡ p.count.room
+  pub view : q.view ≡ mail.after_taking p.view taken
+  pub collects : q.count.collects ≡ p.count.collects + 1
+  pub out : q.count.out ≡ p.count.out + length taken
+  pub parts : q.count.parts ≡ p.count.parts
+  pub mine : q.count.mine ≡ p.count.mine
+  pub full : q.count.full ≡ p.count.full
+  pub seen : q.count.seen ≡ p.count.seen
+
+-- the same of a port's two tokens
+abbrev pub CollectsAt : Pass Message View → Seat (Option ℕ) CountView → List Message → Pass Message View → Seat (Option ℕ) CountView → Type 0
+CollectsAt pass seat taken pass_after seat_after = Collects (port_of pass seat) taken (port_of pass_after seat_after)
 
 -- a message was put in, and counted
 pub record IsPosted (p : PortView) (message : Message) (q : PortView) : Type 0 where
@@ -87,13 +100,11 @@ pub record IsPosted (p : PortView) (message : Message) (q : PortView) : Type 0 w
   pub collects : q.count.collects ≡ p.count.collects
   pub seen : p.count.seen ≤ q.count.seen
 
--- a message came back: the mailbox held as many as it has room for, and so many were put in and counted
+-- a message came back: so many were counted, and not noted as taken out, as there is room for, which the port counts
 pub record IsFull (room : ℕ) (p : PortView) (message : Message) (back : Message) (q : PortView) : Type 0 where
   pub same : back ≡ message
-  pub held : HeldAt p.view room
-  pub counted : room ≤ q.count.seen
-  -- the port has counted it
   pub full : q.count.full ≡ p.count.full + 1
+  pub counted : room ≤ q.count.seen
   -- nothing else is new to the port
   pub view : q.view ≡ p.view
   pub parts : q.count.parts ≡ p.count.parts

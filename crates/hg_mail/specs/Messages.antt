@@ -94,6 +94,10 @@ Takes v message w = w ≡ after_taking v (message ∷ [])
 abbrev pub IsEmptied : View → Type 0
 IsEmptied v = AllByRecursion (λ (s : Sender). s.put ≡ messages_of s.from v.taken) v.senders
 
+-- a port that gives out senders' ports knows whose messages were taken out: senders' to whom it gave one
+abbrev pub KnowsSenders : View → Type 0
+KnowsSenders v = v.gives ≡ true → AreFrom v.next v.taken
+
 -- every right, with those of all senders
 pub record IsWhole (v : View) : Type 0 where
   pub takes : v.takes ≡ true

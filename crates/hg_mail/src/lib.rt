@@ -1,9 +1,10 @@
-//! Mailboxes between threads: bounded queues of events, each with many senders, one receiver, and the count of all that was
-//! ever put in. What a thread may do, and what it knows, lies in its `Port`.
-//! The layers above use `post`, whose answer `Full` has both its causes, that the mailbox held as many messages as it has room
-//! for and that so many were put in and counted; `collect`, which takes fewer than there is room for only where the mailbox
-//! held none, and which the port counts; and, once the ports have been taken back, `count` and `drain`: each sender's messages
-//! are what of them was taken out, and then what was left.
+//! Mailboxes between threads: bounded queues of events, each with many senders and one receiver, and two counts beside it, of
+//! all messages that were ever put in, and of those that are noted as taken out. What a thread may do, and what it knows, lies in
+//! its `Port`.
+//! The layers above use `post`, whose answer `Full` says that, at a step of the call, so many were counted and not noted as taken
+//! out as there is room for; `collect`, which takes out all that were counted when it began and not noted as taken out, or as many
+//! as there is room for; the port counts both, so what it has counted in the end speaks of each call. Once the ports have been
+//! taken back, `count` and `drain`: each sender's messages are what of them was taken out, and then what was left.
 //!
 //! From `send_piece` and `receive` of `hg_storm`:
 //!

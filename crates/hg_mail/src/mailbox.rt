@@ -1,8 +1,7 @@
 ghost use Rattle.std.specs.Prelude.{◌≡◌, ◌<◌, ◌≤◌, ◌%◌, ◌^◌, true, IfOk, OnErr, OnOk, length, max};
-ghost use Rattle.hg_mail.specs.Messages.{HasPort, IsEmptied, IsWhole};
-ghost use Rattle.hg_mail.specs.Rule.{HeldAt};
+ghost use Rattle.hg_mail.specs.Messages.{HasPort, IsEmptied, IsWhole, KnowsSenders};
 ghost use Rattle.hg_mail.specs.Count.{all_parts};
-ghost use Rattle.hg_mail.specs.Mailboxes.{IsPortOf, IsOpened, Posts, TakesSome, after_collecting, after_hand, after_issue, after_looking, after_taking, handed, issued, joined, spent};
+ghost use Rattle.hg_mail.specs.Mailboxes.{Collects, IsPortOf, IsOpened, Posts, TakesSome, after_hand, after_issue, after_looking, after_taking, handed, issued, joined, spent};
 
 use crate::collecting::{collect_by, drain_by};
 use crate::counting::look;
@@ -17,7 +16,8 @@ use std::alloc::Global;
 use std::marker::Model;
 use std::sync::Wait;
 
-/// A bounded queue of messages that threads share, and the count of all that were ever put in. Each call needs a port of it.
+/// A bounded queue of messages that threads share, and two counts, of all that were ever put in, and of those that are noted as
+/// taken out. Each call needs a port of it.
 #[derive(Drop)]
 pub struct Mailbox {
     queue: Queue,
@@ -32,7 +32,7 @@ impl Model for Mailbox {
 
     ghost view = { λ m. mailbox_of m.queue m.counter.shared.table_id };
 
-    ghost invariant = { λ m. m.counter.shared.table_id.words ≡ 1 };
+    ghost invariant = { λ m. m.counter.shared.table_id.words ≡ 2 };
 }
 
 impl Mailbox {
@@ -43,7 +43,7 @@ impl Mailbox {
         ensures { IfOk result (λ r. IsOpened room r.0 r.1) }
     {
         let (queue, pass) = RuledArrayQueue::ruled(alloc, room)?;
-        let (counter, seat) = Table::vacant(alloc, &[0u64], 0, &())?;
+        let (counter, seat) = Table::vacant(alloc, &[0u64, 0], 0, &room)?;
         Ok((
             Mailbox { queue, counter },
             Port {
@@ -157,9 +157,8 @@ impl Mailbox {
         look(&self.counter.shared, seat)
     }
 
-    /// Puts a message in, by a port that puts in for its sender. It comes back only where the mailbox held as many messages as
-    /// it has room for at a step of this call, and so many were put in and counted by its end, as the port has seen; the port
-    /// counts how often.
+    /// Puts a message in, by a port that puts in for its sender. It comes back only where, at a step of this call, so many were
+    /// counted, and not noted as taken out, as the mailbox has room for; the port counts how often.
     pub fn post<R: Wait>(&self, rt: &R, port: &mut Port, message: Message) -> PostAnswer
         requires of { IsPortOf self.now port.old }
         requires sender { HasPort message.from port.old.view }
@@ -171,8 +170,8 @@ impl Mailbox {
         post_by(rt, &self.queue, &self.counter.shared, pass, seat, message)
     }
 
-    /// Takes out as many messages as there is room for, oldest first, or fewer where the mailbox held none at a step of this
-    /// call; the port counts that it did. Without memory none.
+    /// Takes out, oldest first, all messages that are counted when it begins, and not noted as taken out, or as many as there is
+    /// room for, and notes them; the port counts that it did. Without memory none.
     pub fn collect<R: Wait>(
         &self,
         rt: &R,
@@ -181,9 +180,8 @@ impl Mailbox {
     ) -> Result<Vec<Message>, Memory>
         requires of { IsPortOf self.now port.old }
         requires takes { port.old.view.takes ≡ true }
-        ensures port { IfOk result (λ taken. port.new ≡ after_collecting port.old taken.items) }
+        ensures collects { IfOk result (λ taken. Collects port.old taken.items port.new) }
         ensures most { IfOk result (λ taken. length taken.items ≤ self.now.room) }
-        ensures fewer { IfOk result (λ taken. length taken.items < self.now.room → HeldAt port.new.view 0) }
         ensures err { OnErr result (port.new ≡ port.old) }
     {
         let pass = &mut port.pass;
@@ -191,9 +189,9 @@ impl Mailbox {
         collect_by(rt, alloc, &self.queue, &self.counter.shared, pass, seat)
     }
 
-    /// Takes out all that is left: the mailbox held none at a step of this call. Then all is taken out that was put in by the
-    /// senders whose ports this one has taken back, since they put in no more; where it has taken all back, no more was left
-    /// than there is room for. Without memory some messages may have been taken out, and are lost.
+    /// Takes out what is left, until the mailbox holds none: then all is out that was put in by the senders whose ports this one
+    /// has taken back, since they put in no more; where it has taken all back, no more was left than there is room for. Without
+    /// memory some messages may have been taken out, and are lost.
     pub fn drain<R: Wait>(
         &self,
         rt: &R,
@@ -203,8 +201,8 @@ impl Mailbox {
         requires of { IsPortOf self.now port.old }
         requires takes { port.old.view.takes ≡ true }
         ensures port { IfOk result (λ left. port.new ≡ after_taking port.old left.items) }
-        ensures none { OnOk result (HeldAt port.new.view 0) }
         ensures whole { OnOk result (IsEmptied port.new.view) }
+        ensures known { OnOk result (KnowsSenders port.new.view) }
         ensures room { IsWhole port.old.view → IfOk result (λ left. length left.items ≤ self.now.room) }
         ensures err { OnErr result (TakesSome port.old port.new) }
     {

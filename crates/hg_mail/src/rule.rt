@@ -1,7 +1,7 @@
 // The rules of a mailbox's two halves, and what each kind of step tells its port.
 ghost use Rattle.hg_mail.specs.Messages.{Puts, Takes, after_issue, after_hand, first_view, issued, handed, joined_view, spent_view};
 ghost use Rattle.hg_mail.specs.Rule.{Delivers, IsAt};
-ghost use Rattle.hg_mail.specs.Count.{Counts, after_part, came_back, collected, first_count, joined_count, looked, one_part, raised, spent_count};
+ghost use Rattle.hg_mail.specs.Count.{Counts, after_part, begun, came_back, collected, first_count, joined_count, looked, one_part, raised, spent_count, weighed};
 
 use crate::message::Message;
 use crate::view::{CountView, View};
@@ -25,22 +25,22 @@ pub type Queue = RuledArrayQueue<Message, View, Delivery>;
 /// A port's token of the queue.
 pub type MailPass = Pass<Message, View>;
 
-/// The count is at most what all ports have counted.
+/// The counts are what all ports have counted, and what they have noted as taken out.
 pub struct Counting;
 
-impl TableRule<Option<u8>, CountView, ()> for Counting {
+impl TableRule<Option<u8>, CountView, usize> for Counting {
     ghost holds = { λ _. Counts };
 
-    ghost first = { λ _. first_count };
+    ghost first = { first_count };
 }
 
-/// The count of a mailbox: a table of one word, without slots.
-pub type Counter = Table<Option<u8>, CountView, (), Counting, Global>;
+/// The counts of a mailbox: a table of two words, without slots, for so much room.
+pub type Counter = Table<Option<u8>, CountView, usize, Counting, Global>;
 
-/// The count as its ports share it.
-pub type SharedCounter = Shared<Option<u8>, CountView, (), Counting>;
+/// The counts as its ports share them.
+pub type SharedCounter = Shared<Option<u8>, CountView, usize, Counting>;
 
-/// A port's token of the count.
+/// A port's token of the counts.
 pub type CountSeat = Seat<Option<u8>, CountView>;
 
 /// A message is put in; where the queue is full, what is known of it then.
@@ -79,6 +79,13 @@ impl Play<Option<u8>, CountView> for Look {
     ghost then = { looked };
 }
 
+/// How many are noted as taken out is read.
+pub struct Weigh;
+
+impl Play<Option<u8>, CountView> for Weigh {
+    ghost then = { weighed };
+}
+
 /// A message came back.
 pub struct Back;
 
@@ -86,7 +93,14 @@ impl Play<Option<u8>, CountView> for Back {
     ghost then = { came_back };
 }
 
-/// A port collected.
+/// A port begins to collect.
+pub struct Begin;
+
+impl Play<Option<u8>, CountView> for Begin {
+    ghost then = { begun };
+}
+
+/// A port notes what it has taken out.
 pub struct Collect;
 
 impl Play<Option<u8>, CountView> for Collect {
@@ -117,7 +131,7 @@ pub struct OnePart;
 impl Split<CountView> for OnePart {
     ghost left = { after_part };
 
-    ghost right = { λ _. one_part };
+    ghost right = { λ n. one_part n.room };
 }
 
 /// All that a port has is given away.
@@ -130,7 +144,7 @@ impl Split<View> for Everything {
 }
 
 impl Split<CountView> for Everything {
-    ghost left = { λ _. spent_count };
+    ghost left = { λ n. spent_count n.room };
 
     ghost right = { λ n. n };
 }
@@ -147,5 +161,5 @@ impl Join<View> for Both {
 impl Join<CountView> for Both {
     ghost both = { joined_count };
 
-    ghost spent = { spent_count };
+    ghost spent = { spent_count 0 };
 }

@@ -21,16 +21,28 @@ pub struct View {
     pub senders: LinkedList<Sender>,
 }
 
-/// What a port knows of the count of all messages that were ever put in, and what it notes of its own calls.
+/// What a port knows of the two counts, of all messages that were ever put in, and of those that are noted as taken out; and
+/// what it notes of its own calls.
 pub struct CountView {
+    /// For how many messages the mailbox has room.
+    pub room: u64,
     /// Its share of the right to know the whole count.
     pub parts: u64,
-    /// How many it has counted itself.
+    /// How many it has counted itself, as put in.
     pub mine: u64,
-    /// How often a message came back to it.
+    /// How many it has noted itself, as taken out.
+    pub out: u64,
+    /// How often a message came back to it while so many were counted, and not noted as taken out, as there is room for.
     pub full: u64,
-    /// How often it collected.
+    /// How often it collected, and took out all that were counted then, and not noted as taken out, or as many as there is
+    /// room for.
     pub collects: u64,
     /// So many were counted in all, at least.
     pub seen: u64,
+    /// How many were counted when it looked last.
+    pub counted: u64,
+    /// How many were noted as taken out when it looked last.
+    pub gone: u64,
+    /// How many were counted, and not noted as taken out, when it began to collect; while it does.
+    pub waiting: Option<u64>,
 }

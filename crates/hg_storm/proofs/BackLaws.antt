@@ -7,7 +7,6 @@ use Rattle.std.proofs.lemmas.List.{get_or-set_other, get_or-set_same, get_or_def
 use Rattle.hg_mail.specs.declared.message.Message.{Message}
 use Rattle.hg_mail.specs.declared.view.Sender.{Sender}
 use Rattle.hg_mail.specs.declared.view.View.{View}
-use Rattle.hg_mail.specs.declared.view.CountView.{CountView}
 use Rattle.hg_mail.specs.Count.{joined_count}
 use Rattle.hg_mail.specs.Messages.{joined_view, receiver_view, sender, sender_view}
 use Rattle.hg_mail.specs.Mailboxes.{IsPortOf, MailboxView, PortView, joined}
@@ -17,7 +16,7 @@ use Rattle.hg_storm.specs.declared.plan.Plan.{Plan}
 use Rattle.hg_storm.specs.declared.sending.Dispatch.{Dispatch}
 use Rattle.hg_storm.specs.declared.desk.Job.{Job}
 use Rattle.hg_storm.specs.Keeping.{Secrets}
-use Rattle.hg_storm.specs.Receiving.{collector}
+use Rattle.hg_storm.specs.Receiving.{HasCollectedAlone}
 use Rattle.hg_storm.specs.Sending.{bytes_seen, messages_from}
 use Rattle.hg_storm.specs.Turning.{HasServed}
 use Rattle.hg_storm.specs.Threads.{AreOpened, away, no_dispatch}
@@ -157,15 +156,12 @@ module _ (tale : Tale) (n i k : ℕ) (m : MailboxView) (a b : PortView) (was : I
       })
 
   -- the member's own, with its receiver's port
-  back_own : (inbox c : PortView) → k ≡ i → inbox.view ≡ receiver_view (tale.taken i) → inbox.count ≡ collector (tale.collects i) → c ≡ joined (joined a b) inbox → IsBack tale n (i + 1) k m c
+  back_own : (inbox c : PortView) → k ≡ i → inbox.view ≡ receiver_view (tale.taken i) → HasCollectedAlone (tale.collects i) inbox.count → c ≡ joined (joined a b) inbox → IsBack tale n (i + 1) k m c
   back_own inbox c same view count is =
       let was_due : due_back (nat_le i k) ≡ 1 = ap due_back (le-leb i k (omega (arith, same))) in
       let now_due : due_back (nat_le (i + 1) k) ≡ 0 = ap due_back (lt-leb (i + 1) k (omega (arith, same))) in
       let v : View = joined_view a.view b.view in
-      let box_parts : inbox.count.parts ≡ 1 = ap (λ (x : CountView). x.parts) count in
-      let box_mine : inbox.count.mine ≡ 0 = ap (λ (x : CountView). x.mine) count in
-      let box_full : inbox.count.full ≡ 0 = ap (λ (x : CountView). x.full) count in
-      let box_collects : inbox.count.collects ≡ tale.collects k = ap (λ (x : CountView). x.collects) count ∙ ap tale.collects (sym same) in
+      let box_collects : inbox.count.collects ≡ tale.collects k = count.collects ∙ ap tale.collects (sym same) in
       let unknown : known_back (nat_le i k) (tale.collects k) ≡ 0 = ap (λ (z : Bool). known_back z (tale.collects k)) (le-leb i k (omega (arith, same))) in
       let known : known_back (nat_le (i + 1) k) (tale.collects k) ≡ tale.collects k = ap (λ (z : Bool). known_back z (tale.collects k)) (lt-leb (i + 1) k (omega (arith, same))) in
       subst (IsBack tale n (i + 1) k m) (sym is) (record {
@@ -175,17 +171,17 @@ module _ (tale : Tale) (n i k : ℕ) (m : MailboxView) (a b : PortView) (was : I
         takes = λ _. ap (λ (w : View). (joined_view v w).takes) view;
         taken = λ _. ap (λ (w : View). (joined_view v w).taken) view ∙ ap tale.taken (sym same);
         senders = λ j below. subst (λ (w : View). HasSender (sender j (tale.put j k)) (v.senders ++ w.senders)) (sym view) (has_left (sender j (tale.put j k)) v.senders [] (senders_next j below));
-        parts = omega (arith, was.parts, part.parts, box_parts, was_due, now_due);
-        mine = omega (arith, was.mine, part.mine, box_mine, sum_next tale i k);
+        parts = omega (arith, was.parts, part.parts, count.parts, was_due, now_due);
+        mine = omega (arith, was.mine, part.mine, count.mine, sum_next tale i k);
         full = full_next (joined_count (joined_count a.count b.count) inbox.count).seen (omega arith) (omega arith);
-        often = omega (arith, was.often, part.back, box_full, often_next tale i k);
+        often = omega (arith, was.often, part.back, count.full, often_next tale i k);
         collects = omega (arith, was.collects, part.none, box_collects, unknown, known);
       })
 
 -- the ports of one member more are back
 back_one : (tale : Tale) (n i : ℕ) (mails : List MailboxView) (olds ports : List PortView) (inbox : PortView) (news : List PortView) → AreBack tale n i mails olds → AreGathered i mails olds ports inbox news →
     ((k : ℕ) (m : MailboxView) (q : PortView) → k < length mails → Brings i (tale.put i k) (tale.full i k) (get_or mails k m) (get_or ports k q)) →
-    inbox.view ≡ receiver_view (tale.taken i) → inbox.count ≡ collector (tale.collects i) → AreBack tale n (i + 1) mails news
+    inbox.view ≡ receiver_view (tale.taken i) → HasCollectedAlone (tale.collects i) inbox.count → AreBack tale n (i + 1) mails news
 back_one tale n i mails olds ports inbox news back g brings view count = record {
   count = g.of.count;
   each = λ k m q inside.
@@ -250,8 +246,8 @@ module _ (plan : Plan) (mails : List MailboxView) (p : SharedNode Secrets) (i : 
   turned_view : (m : MailboxView) → j.desk.inbox.view ≡ receiver_view j.desk.log.intake.taken.items
   turned_view m = (turned.stands.inbox m).view
 
-  turned_count : j.desk.inbox.count ≡ collector j.desk.inbox.count.collects
-  turned_count = turned.stands.alone ∙ ap collector (sym (ap (λ (x : CountView). x.collects) turned.stands.alone))
+  turned_count : HasCollectedAlone j.desk.inbox.count.collects j.desk.inbox.count
+  turned_count = let alone = turned.stands.alone in record { parts = alone.parts; mine = alone.mine; full = alone.full; collects = refl }
 
 pub back_next : (mails : List MailboxView) (places : List (SharedNode Secrets)) (jobs : List Job) (i : ℕ) (j : Job) (olds news : List PortView) → HaveTurned mails places jobs → i < length jobs → j ≡ get_or jobs i j →
     AreGathered i mails olds j.desk.ports.items j.desk.inbox news → ((p : SharedNode Secrets) (d : Job) → AreBack (tale_of places jobs p d) (length mails) i mails olds) →

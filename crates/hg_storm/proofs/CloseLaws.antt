@@ -9,12 +9,9 @@ use Rattle.hg_life.specs.Signing.{accepts_by}
 use Rattle.hg_mail.specs.declared.message.Message.{Message}
 use Rattle.hg_mail.specs.declared.view.Sender.{Sender}
 use Rattle.hg_mail.specs.Count.{all_parts}
-use Rattle.hg_mail.specs.declared.view.View.{View}
-use Rattle.hg_mail.specs.Messages.{AreFrom, IsAmong, IsEmptied, IsWhole, after_taking, messages_of, sender}
-use Rattle.hg_mail.specs.Rule.{HeldAt}
+use Rattle.hg_mail.specs.Messages.{AreFrom, IsAmong, IsEmptied, IsWhole, KnowsSenders, after_taking, messages_of, sender}
 use Rattle.hg_mail.specs.Mailboxes as mailbox
 use Rattle.hg_mail.specs.Mailboxes.{MailboxView, PortView}
-use Rattle.hg_mail.proofs.MessageLaws.{from_senders}
 use Rattle.hg_board.specs.Seats.{SharedNode, SeatView}
 use Rattle.hg_board.specs.Calls.{Absorbs}
 use Rattle.hg_crowd.specs.Workers.{AllAbsorb}
@@ -46,16 +43,16 @@ absorbed_take_out mails places jobs masters lasts told places_count jobs_count o
 
 -- ---- what is left
 
--- a port that counted and took out all, at whose end the mailbox held none
+-- a port that counted and took out all
 pub empties : {Z E : Type 0} (m : MailboxView) (p q r : PortView) (counted : ℕ) (result : Result (Vec Message Z) E) → q ≡ mailbox.after_looking p counted → (p.count.parts ≡ all_parts → q.count.seen ≤ p.count.mine) → p.view.takes ≡ true →
-    IfOk result (λ (left : Vec Message Z). r ≡ mailbox.after_taking q left.items) → OnOk result (HeldAt r.view 0) → OnOk result (IsEmptied r.view) → (IsWhole q.view → IfOk result (λ (left : Vec Message Z). length left.items ≤ m.room)) →
+    IfOk result (λ (left : Vec Message Z). r ≡ mailbox.after_taking q left.items) → OnOk result (KnowsSenders r.view) → OnOk result (IsEmptied r.view) → (IsWhole q.view → IfOk result (λ (left : Vec Message Z). length left.items ≤ m.room)) →
     IfOk result (λ (left : Vec Message Z). Empties m p left.items)
 empties m p q r counted (Err e) looked whole takes taken none all room = tt
 empties m p q r counted (Ok left) looked whole takes taken none all room =
     let view : r.view ≡ after_taking p.view left.items = ap (λ (x : PortView). x.view) taken ∙ ap (λ (x : PortView). after_taking x.view left.items) looked in
     record {
       all = subst IsEmptied view all;
-      known = from_senders (after_taking p.view left.items) takes (subst (λ (w : View). HeldAt w 0) view none);
+      known = subst KnowsSenders view none;
       whole = λ parts. let seen = whole parts in let is = ap (λ (x : PortView). x.count.seen) looked in omega (arith, seen, is);
       few = λ all_back. room (subst IsWhole (sym (ap (λ (x : PortView). x.view) looked)) all_back);
     }

@@ -9,7 +9,7 @@ use Rattle.hg_life.specs.Signing.{accepts_by}
 use Rattle.hg_mail.specs.declared.message.Message.{Message}
 use Rattle.hg_mail.specs.declared.view.View.{View}
 use Rattle.hg_mail.specs.declared.view.CountView.{CountView}
-use Rattle.hg_mail.specs.Count.{all_parts}
+use Rattle.hg_mail.specs.Count.{all_parts, one_part}
 use Rattle.hg_mail.specs.Messages as mail
 use Rattle.hg_mail.specs.Messages.{sender_view, receiver_view}
 use Rattle.hg_mail.specs.Mailboxes.{IsOpened, IsPortOf, MailboxView, PortView, after_hand, after_issue, handed, issued}
@@ -29,7 +29,7 @@ use Rattle.hg_storm.specs.declared.desk.Job.{Job}
 use Rattle.hg_storm.specs.Drawing.{HasDrawn, first_state}
 use Rattle.hg_storm.specs.Fates.{HasFates}
 use Rattle.hg_storm.specs.Keeping.{Secrets, rows_made}
-use Rattle.hg_storm.specs.Receiving.{IsInbox}
+use Rattle.hg_storm.specs.Receiving.{HasCollectedAlone, IsInbox}
 use Rattle.hg_storm.specs.Sending.{bytes_seen}
 use Rattle.hg_storm.specs.Turning.{HasServed, HasServedAll, Standing}
 use Rattle.hg_storm.specs.Threads.{AreIssued, AreIssuing, AreNewJobs, AreNewSenders, AreOpened, HaveRoom, IsFirstPort, IsNewDesk, IsNewJob, IsNewLog, IsNewReceiver, IsNewSender, MayRun, away, no_dispatch, opened_view}
@@ -109,7 +109,7 @@ new_sender : (me bound k : ℕ) (m : MailboxView) (q port : PortView) → IsFirs
 new_sender me bound k m q port first is = subst (IsNewSender me m) (sym is) (record {
   of = first.of;
   view = ap (λ (v : View). sender_view v.next []) first.view;
-  count = refl;
+  count = ap one_part first.of.2;
 })
 
 -- ports of the first mailboxes, so many, were given out to the member
@@ -233,7 +233,7 @@ module _ (me : ℕ) (mails : List MailboxView) (masters : List PortView) (m : Ma
       subst (λ (z : MailboxView × PortView). IsNewReceiver z.0 z.1) (λ i. (sym at i, sym is i)) (record {
         of = own_first.of;
         view = ap (λ (v : View). receiver_view v.taken) own_first.view;
-        count = refl;
+        count = ap one_part own_first.of.2;
       })
 
 -- ---- the members' jobs
@@ -344,6 +344,9 @@ served_nobody plan place own rows mails ds ports none new = record {
 fates_none : (p : SharedNode Secrets) (first : SeatView Secrets) → HasFates accepts_by p (split_off first) [] []
 fates_none p first = record { refusals = tt; once = tt; held = λ j no. absurd (omega (arith, no)); came = tt }
 
+alone_first : (n : CountView) (room : ℕ) → n ≡ one_part room → HasCollectedAlone 0 n
+alone_first n room is = subst (HasCollectedAlone 0) (sym is) (record { parts = refl; mine = refl; full = refl; collects = refl })
+
 -- with a seat that added nothing, ports that put in nothing, one that took nothing, and an empty log
 begins : (plan : Plan) (place : ℕ) (mails : List MailboxView) (p : SharedNode Secrets) (own : ℕ) (log : Log) (first : SeatView Secrets) (ports : List PortView) (inbox : PortView) → own < length mails → 0 < p.start.start.limit →
     IsSeat accepts_by p first → IsNewLog (length mails) log → AreNewSenders own mails ports → ((m : MailboxView) → IsNewReceiver (get_or mails own m) inbox) →
@@ -353,7 +356,7 @@ begins plan place mails p own log first ports inbox inside room seat new senders
   seat = seat_split_off accepts_by p first seat;
   fates = subst (λ (z : List Message × List RefusedMessage). HasFates accepts_by p (split_off first) z.0 z.1) (λ i. (sym new.taken i, sym new.refused i)) (fates_none p first);
   inbox = λ m. subst (λ (l : List Message). IsInbox (get_or mails own m) l inbox) (sym new.taken) (record { of = (box m).of; view = (box m).view });
-  alone = (box (some_of mails own inside)).count;
+  alone = alone_first inbox.count (get_or mails own (some_of mails own inside)).room (box (some_of mails own inside)).count;
   served = served_nobody plan place own (bytes_seen p (split_off first)) mails log.dispatches.items ports new.dispatches senders;
   room = room;
   some = λ no. absurd (omega (arith, no));

@@ -11,7 +11,6 @@ use Rattle.hg_history.proofs.StateLaws.{prefix_more, rows_grow}
 use Rattle.hg_mail.specs.declared.message.Message.{Message}
 use Rattle.hg_mail.specs.declared.view.View.{View}
 use Rattle.hg_mail.specs.Messages.{HasPort, IsSender, after_post, sender_view}
-use Rattle.hg_mail.specs.Rule.{HeldAt}
 use Rattle.hg_mail.specs.Mailboxes.{IsFull, IsPortOf, IsPosted, MailboxView, PortView}
 use Rattle.hg_board.specs.Copies.{bytes_from}
 use Rattle.hg_board.specs.Table.{node_at}
@@ -118,7 +117,6 @@ sends_still room from place rows m back p q r sends full = record {
 pub was_full : (m : MailboxView) (message back : Message) (p q r : PortView) → NoneBack p q → IsFull m.room q message back r → WasFull m p r
 was_full m message back p q r none full = record {
   once = omega (arith, full.full, none);
-  held = subst (λ (v : View). HeldAt v m.room) (sym full.view) full.held;
   counted = full.counted;
 }
 
@@ -130,7 +128,7 @@ none_more m p q r count sent none rest all =
 pub some_back : (m : MailboxView) (p q r : PortView) (count sent : ℕ) → NoneBack p q → AreIn m q r count sent → sent < count → WasFull m p r
 some_back m p q r count sent none rest less =
     ⊎_elim (λ (whole : (sent ≡ count) × NoneBack q r). absurd (omega (arith, whole.0, less)))
-    (λ (some : (sent < count) × WasFull m q r). record { once = omega (arith, some.1.once, none); held = some.1.held; counted = some.1.counted }) rest
+    (λ (some : (sent < count) × WasFull m q r). record { once = omega (arith, some.1.once, none); counted = some.1.counted }) rest
 
 -- whose port it is stays so
 pub still_sender : (from place : ℕ) (rows : List (List ℕ)) (p q : PortView) → Sends from place rows p q → IsSender from p.view → IsSender from q.view

@@ -1,5 +1,5 @@
 -- A member whose memory runs out in a turn: what it leaves
-use Rattle.std.proofs.Common.{◌≡◌, ◌⊎◌, ⊎_elim, inl, inr, ℕ, ◌+◌, ◌<◌, ◌≤◌, List, [], ◌++◌, append-nil, length, set, get_or, sym, ap, ◌∙◌, subst, refl, arith}
+use Rattle.std.proofs.Common.{◌≡◌, ◌⊎◌, ⊎_elim, inl, inr, ℕ, ◌+◌, ◌<◌, ◌≤◌, List, [], ◌++◌, append-nil, length, set, get_or, sym, ap, ◌∙◌, subst, arith}
 use mathlib.Core.Logic.{dite}
 use native.Mathlib.Decide.{ℕ_discrete}
 use Rattle.std.proofs.lemmas.List.{get_or-set_same, get_or-set_other, get_or_default}
@@ -7,8 +7,7 @@ use Rattle.hg_model.specs.Orders.{IsPrefix}
 use Rattle.hg_life.specs.Signing.{accepts_by}
 use Rattle.hg_history.proofs.StateLaws.{prefix_more}
 use Rattle.hg_mail.specs.declared.message.Message.{Message}
-use Rattle.hg_mail.specs.Count.{collecting}
-use Rattle.hg_mail.specs.Mailboxes.{MailboxView, PortView}
+use Rattle.hg_mail.specs.Mailboxes.{Collects, MailboxView, PortView}
 use Rattle.hg_board.specs.Seats.{SharedNode, SeatView}
 use Rattle.hg_board.specs.Calls.{SeatWaits, Stays}
 use Rattle.hg_crowd.specs.Crowd.{IsSeat, IsStill}
@@ -18,13 +17,13 @@ use Rattle.hg_storm.specs.declared.taking.RefusedMessage.{RefusedMessage}
 use Rattle.hg_storm.specs.declared.desk.Desk.{Desk}
 use Rattle.hg_storm.specs.Fates.{HasFates}
 use Rattle.hg_storm.specs.Keeping.{AddsNoRow, Secrets, rows_made}
-use Rattle.hg_storm.specs.Receiving.{IsInbox, LosesRest, LosesSome, TakesMore, collector}
+use Rattle.hg_storm.specs.Receiving.{HasCollectedAlone, IsInbox, LosesRest, LosesSome, TakesMore}
 use Rattle.hg_storm.specs.Sending.{HasSent, NoneBack, bytes_seen}
 use Rattle.hg_storm.specs.Turning.{HasPut, HasServed, HasStopped, Stands}
 use Rattle.hg_storm.proofs.KeepLaws.{waiting_keeps}
 use Rattle.hg_storm.proofs.MadeLaws.{came_below, no_row_more, no_row_on, none_made, waits_none}
 use Rattle.hg_storm.proofs.SendLaws.{counted_later}
-use Rattle.hg_storm.proofs.TurnLaws.{inbox_on, served_read}
+use Rattle.hg_storm.proofs.TurnLaws.{alone_on, inbox_on, served_read}
 
 -- a seat that had taken messages waited then
 module _ (p : SharedNode Secrets) (s t u : SeatView Secrets) (taken : List Message) (refused : List RefusedMessage) (still : IsStill s t) (none : AddsNoRow s t) (fates : HasFates accepts_by p t taken refused)
@@ -74,7 +73,7 @@ module _ (plan : Plan) (place : ℕ) (mails : List MailboxView) (p : SharedNode 
   rows_same : rows_made new.seat + new.log.idle ≡ made
   rows_same = omega (arith, no_row_more old.seat new.seat first none, idle, was.rows)
 
-  stops : (lost : List Message) → HasOut old.me (taken_now ++ lost) → (new.inbox.count ≡ collector made) ⊎ (new.inbox.count ≡ collector (made + 1)) → HasPutAll old.me → HasStopped mails p made new
+  stops : (lost : List Message) → HasOut old.me (taken_now ++ lost) → HasCollectedAlone made new.inbox.count ⊎ HasCollectedAlone (made + 1) new.inbox.count → HasPutAll old.me → HasStopped mails p made new
   stops lost box alone put = record {
     me = subst (λ (own : ℕ). own < length mails) (sym me) was.me;
     seat = seat;
@@ -100,19 +99,19 @@ module _ (plan : Plan) (place : ℕ) (mails : List MailboxView) (p : SharedNode 
     of_own : (out : List Message) → IsInbox m out new.inbox → HasOut old.me out
     of_own out is n = subst (λ (x : MailboxView). IsInbox x out new.inbox) (m_is ∙ get_or_default mails old.me m n was.me) is
 
-    counted_once : (q : PortView) → new.inbox ≡ q → q.count ≡ collecting old.inbox.count → new.inbox.count ≡ collector (made + 1)
-    counted_once q is count = ap (λ (x : PortView). x.count) is ∙ (count ∙ ap collecting was.alone)
+    counted_once : (more : List Message) → Collects old.inbox more new.inbox → HasCollectedAlone (made + 1) new.inbox.count
+    counted_once more collects = alone_on made old.inbox new.inbox more was.alone collects
 
     none_out : (new.inbox ≡ old.inbox) × (taken_now ≡ taken) → HasStopped mails p made new
     none_out same =
         let out : taken ≡ taken_now ++ [] = sym same.1 ∙ sym (append-nil taken_now) in
         stops [] (λ n. subst (λ (x : List Message × PortView). IsInbox (get_or mails old.me n) x.0 x.1) (λ i. (out i, sym same.0 i)) (was.inbox n))
-        (inl (ap (λ (x : PortView). x.count) same.0 ∙ was.alone)) (put_same ports)
+        (inl (subst (λ (x : PortView). HasCollectedAlone made x.count) (sym same.0) was.alone)) (put_same ports)
 
     some_out : LosesSome m old.inbox new.inbox taken taken_now → HasStopped mails p made new
     some_out some =
         stops some.lost (of_own (taken_now ++ some.lost) (inbox_on m taken (taken_now ++ some.lost) old.inbox new.inbox own_inbox some.out))
-        (inr (counted_once _ some.out.port refl)) (put_same ports)
+        (inr (counted_once some.out.more some.out.port)) (put_same ports)
 
     pub stops_taking : LosesRest m old.inbox new.inbox taken taken_now → HasStopped mails p made new
     stops_taking loses = ⊎_elim none_out some_out loses
@@ -122,7 +121,7 @@ module _ (plan : Plan) (place : ℕ) (mails : List MailboxView) (p : SharedNode 
     stops_making takes =
         let all : taken_now ≡ taken_now ++ [] = sym (append-nil taken_now) in
         stops [] (of_own (taken_now ++ []) (subst (λ (out : List Message). IsInbox m out new.inbox) all (inbox_on m taken taken_now old.inbox new.inbox own_inbox takes)))
-        (inr (counted_once _ takes.port refl)) (put_same ports)
+        (inr (counted_once takes.more takes.port)) (put_same ports)
 
   -- in a call that sends to a member
   module _ (k : ℕ) (inside : k < length mails) (m : MailboxView) (c : Dispatch) (q r : PortView)
@@ -153,5 +152,5 @@ module _ (plan : Plan) (place : ℕ) (mails : List MailboxView) (p : SharedNode 
     stops_sending =
         let out : taken ≡ taken_now ++ [] = sym intake ∙ sym (append-nil taken_now) in
         stops [] (λ n. subst (λ (x : List Message × PortView). IsInbox (get_or mails old.me n) x.0 x.1) (λ i. (out i, sym inbox i)) (was.inbox n))
-        (inl (ap (λ (x : PortView). x.count) inbox ∙ was.alone))
+        (inl (subst (λ (x : PortView). HasCollectedAlone made x.count) (sym inbox) was.alone))
         (λ j n d e low. subst (λ (x : List Dispatch × List PortView). HasPut old.me (bytes_seen p new.seat) (get_or mails j n) (get_or x.0 j d) (get_or x.1 j e)) (λ i. (sym dispatches i, sym ports i)) (put_now j n d e low))

@@ -1,9 +1,8 @@
 -- Messages that were taken out, of which only the first were taken
 use Rattle.std.specs.Prelude.{OnErr}
-use Rattle.std.proofs.Common.{◌≡◌, inr, ◌<◌, ◌≤◌, Result, Ok, Err, List, ◌++◌, append_assoc, length, sym, ap, ◌∙◌}
+use Rattle.std.proofs.Common.{inr, ◌≤◌, Result, Ok, Err, List, ◌++◌, append_assoc, length, sym, ap, ◌∙◌}
 use Rattle.hg_mail.specs.declared.message.Message.{Message}
-use Rattle.hg_mail.specs.Rule.{HeldAt}
-use Rattle.hg_mail.specs.Mailboxes.{MailboxView, PortView, after_collecting}
+use Rattle.hg_mail.specs.Mailboxes.{Collects, MailboxView, PortView}
 use Rattle.hg_storm.specs.Receiving.{LosesRest, LosesSome, TakesNotAll}
 
 -- what holds anyway holds at an error
@@ -11,8 +10,7 @@ pub on_err : {T E : Type 0} (result : Result T E) (P : Type 0) → P → OnErr r
 on_err (Ok x) P holds = tt
 on_err (Err e) P holds = holds
 
-module _ (m : MailboxView) (p q : PortView) (old new messages : List Message) (port : q ≡ after_collecting p messages) (most : length messages ≤ m.room)
-    (fewer : length messages < m.room → HeldAt q.view 0) where
+module _ (m : MailboxView) (p q : PortView) (old new messages : List Message) (port : Collects p messages q) (most : length messages ≤ m.room) where
   loses_some : TakesNotAll old messages new → LosesSome m p q old new
   loses_some all = record {
     lost = all.lost;
@@ -24,7 +22,6 @@ module _ (m : MailboxView) (p q : PortView) (old new messages : List Message) (p
           ∙ (append_assoc old all.first.more all.lost ∙ ap (λ (ms : List Message). old ++ ms) (sym all.first.whole));
       port = port;
       most = most;
-      fewer = fewer;
     };
   }
 

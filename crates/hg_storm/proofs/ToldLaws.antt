@@ -11,7 +11,6 @@ use Rattle.hg_life.specs.NodeView.{IsNode, NodeView, node_rows, terms_of}
 use Rattle.hg_life.specs.Signing.{accepts_by}
 use Rattle.hg_life.specs.Spelling.{spelling}
 use Rattle.hg_mail.specs.declared.message.Message.{Message}
-use Rattle.hg_mail.specs.declared.view.CountView.{CountView}
 use Rattle.hg_mail.specs.Messages.{AreFrom, messages_of}
 use Rattle.hg_mail.specs.Mailboxes.{MailboxView, PortView}
 use Rattle.hg_board.specs.Positions.{AreBelow, times}
@@ -250,7 +249,7 @@ module _ {Z : Type 0} (plan : Plan) (room : ℕ) (mails : List MailboxView) (nod
     its_tale = tale_of places news (some_place k inside) (some_job k inside)
 
     collects_same : its_tale.collects k ≡ turns_of plan k
-    collects_same = ap (λ (n : CountView). n.collects) (its_turns k (some_place k inside) v (some_job k inside) inside).stands.alone
+    collects_same = (its_turns k (some_place k inside) v (some_job k inside) inside).stands.alone.collects
 
     often_same : full_to its_tale (length mails) k ≡ full_to (tale_told plan ends logs v g) (length ends) k
     often_same =

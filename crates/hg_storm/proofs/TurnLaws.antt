@@ -12,9 +12,8 @@ use Rattle.hg_life.specs.Signing.{accepts_by}
 use Rattle.hg_gossip.specs.Holding.{positions_from}
 use Rattle.hg_mail.specs.declared.message.Message.{Message}
 use Rattle.hg_mail.specs.declared.view.View.{View}
-use Rattle.hg_mail.specs.Count.{collecting}
 use Rattle.hg_mail.specs.Messages.{after_taking, receiver_view}
-use Rattle.hg_mail.specs.Mailboxes.{IsPortOf, MailboxView, PortView}
+use Rattle.hg_mail.specs.Mailboxes.{Collects, MailboxView, PortView}
 use Rattle.hg_board.specs.Positions.{AreBelow}
 use Rattle.hg_board.specs.Table.{node_at}
 use Rattle.hg_board.specs.Seats.{SharedNode, SeatView}
@@ -29,7 +28,7 @@ use Rattle.hg_made.specs.Draws.{next_state, state_after}
 use Rattle.hg_storm.specs.Drawing.{Draws, HasDrawn, IsDrawing, first_state, peer_at, state_at, times_drawn}
 use Rattle.hg_storm.specs.Fates.{HasFates}
 use Rattle.hg_storm.specs.Keeping.{AddsNoRow, KeepsSeat, Secrets, rows_made, rows_made_in}
-use Rattle.hg_storm.specs.Receiving.{IsInbox, TakesMore}
+use Rattle.hg_storm.specs.Receiving.{HasCollectedAlone, IsInbox, TakesMore}
 use Rattle.hg_storm.specs.Sending.{Dispatches, HasSent, IsDue, SendsAll, SendsSome, bytes_seen}
 use Rattle.hg_storm.specs.Turning.{AreIdle, HasCounted, HasEnded, HasMade, HasServed, HasServedAll, IsCounted, IsIdleTurn, Standing, WasDue, is_row}
 use Rattle.hg_storm.proofs.KeepLaws.{making_keeps, still_keeps}
@@ -79,15 +78,23 @@ drawn_next plan me t old new is others next =
 
 pub inbox_on : (m : MailboxView) (old new : List Message) (p q : PortView) → IsInbox m old p → TakesMore m p q old new → IsInbox m new q
 inbox_on m old new p q is takes = record {
-  of = subst (IsPortOf m) (sym takes.port) is.of;
-  view = ap (λ (x : PortView). x.view) takes.port ∙ (ap (λ (v : View). after_taking v takes.more) is.view ∙ ap receiver_view (sym takes.grown));
+  of = (takes.port.queue ∙ is.of.0, takes.port.table ∙ is.of.1, takes.port.room ∙ is.of.2);
+  view = takes.port.view ∙ (ap (λ (v : View). after_taking v takes.more) is.view ∙ ap receiver_view (sym takes.grown));
+}
+
+pub alone_on : (times : ℕ) (p q : PortView) (more : List Message) → HasCollectedAlone times p.count → Collects p more q → HasCollectedAlone (times + 1) q.count
+alone_on times p q more is takes = record {
+  parts = takes.parts ∙ is.parts;
+  mine = takes.mine ∙ is.mine;
+  full = takes.full ∙ is.full;
+  collects = omega (arith, takes.collects, is.collects);
 }
 
 -- the turn's row is made, or could not be
 module _ (plan : Plan) (place : ℕ) (mails : List MailboxView) (p : SharedNode Secrets) (drawn made me : ℕ) (log log_now : Log) (s t u : SeatView Secrets) (ports : List PortView) (inbox inbox_now : PortView)
     (old : Standing plan place mails p drawn made me log s ports inbox) (m : MailboxView) (m_is : m ≡ get_or mails me m)
     (still : IsStill s t) (keeps : KeepsSeat accepts_by p s t) (no_row : AddsNoRow s t)
-    (box : IsInbox m log_now.intake.taken.items inbox_now) (count : inbox_now.count ≡ collecting inbox.count)
+    (box : IsInbox m log_now.intake.taken.items inbox_now) (more_out : List Message) (count : Collects inbox more_out inbox_now)
     (fates : HasFates accepts_by p t log_now.intake.taken.items log_now.intake.refused.items)
     (stays : Stays accepts_by p t u) (b : Bool) (has : HasMade p t (made + 1) u b)
     (dispatches : log_now.dispatches.items ≡ log.dispatches.items) (idle : log_now.idle ≡ log.idle + cond b 0 1) where
@@ -172,7 +179,7 @@ module _ (plan : Plan) (place : ℕ) (mails : List MailboxView) (p : SharedNode 
     seat = record { of = stays.of; begun = stays.begun; within = stays.within; node = stays.node };
     fates = making_keeps Secrets accepts_by p t u (made + 1) has.answer has.next log_now.intake.taken.items log_now.intake.refused.items fates;
     inbox = λ m'. subst (λ (x : MailboxView). IsInbox x log_now.intake.taken.items inbox_now) (m_is ∙ get_or_default mails me m m' old.me) box;
-    alone = count ∙ ap collecting old.alone;
+    alone = alone_on made inbox inbox_now more_out old.alone count;
     served = subst (λ (ds : List Dispatch). HasServedAll plan me place drawn (bytes_seen p u) mails ds ports) (sym dispatches) (all_later plan me place p s u first drawn mails log.dispatches.items ports old.served);
     room = old.room;
     some = λ _. some_rows p t u (made + 1) has.answer has.next old.room;

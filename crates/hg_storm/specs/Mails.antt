@@ -46,8 +46,9 @@ names_left mails to = sum_by (λ (m : Mail). cond (m.to == to) (length m.left.it
 abbrev pub names_back : List Mail → ℕ → ℕ
 names_back mails to = sum_by (λ (m : Mail). cond (m.to == to) m.full 0) mails
 
--- By the port of a member's mailbox that took all others back: the member collected once in each of its turns, as many messages came
--- back as is told, and as many were taken out as names were sent to it.
+-- By the port of a member's mailbox that took all others back: in each of its turns the member collected all that were counted and
+-- not noted as taken out, or as many as there is room for; as many messages came back as is told, each while as many as that were
+-- counted and not noted as taken out; and as many were taken out as names were sent to it.
 pub record IsCollected (plan : Plan) (mails : List Mail) (to : ℕ) (q : PortView) : Type 0 where
   pub collects : q.count.collects ≡ turns_of plan to
   pub back : q.count.full ≡ names_back mails to

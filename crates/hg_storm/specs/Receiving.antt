@@ -2,11 +2,9 @@
 use Rattle.std.specs.Prelude.{◌≡◌, ◌⊎◌, ℕ, ◌<◌, ◌≤◌, List, ◌++◌, length}
 use Rattle.hg_model.specs.Orders.{IsPrefix}
 use Rattle.hg_mail.specs.declared.view.CountView.{CountView}
-use Rattle.hg_mail.specs.Count.{one_part}
 use Rattle.hg_mail.specs.declared.message.Message.{Message}
 use Rattle.hg_mail.specs.Messages.{receiver_view}
-use Rattle.hg_mail.specs.Rule.{HeldAt}
-use Rattle.hg_mail.specs.Mailboxes.{IsPortOf, MailboxView, PortView, after_collecting}
+use Rattle.hg_mail.specs.Mailboxes.{Collects, IsPortOf, MailboxView, PortView}
 
 -- the port is the receiver's, and these are all messages that were taken out
 pub record IsInbox (m : MailboxView) (taken : List Message) (p : PortView) : Type 0 where
@@ -14,17 +12,19 @@ pub record IsInbox (m : MailboxView) (taken : List Message) (p : PortView) : Typ
   pub view : p.view ≡ receiver_view taken
 
 -- one part, by whose port nothing was put in, and which collected so often
-abbrev pub collector : ℕ → CountView
-collector times = record one_part { collects = times }
+pub record HasCollectedAlone (times : ℕ) (n : CountView) : Type 0 where
+  pub parts : n.parts ≡ 1
+  pub mine : n.mine ≡ 0
+  pub full : n.full ≡ 0
+  pub collects : n.collects ≡ times
 
--- by one call that collects these messages more were taken out through the port, and taken: at most as many as there is room for,
--- and fewer only where the mailbox held none at a step
+-- by one call that collects these messages more were taken out through the port, and taken: all that were counted when it began,
+-- and not noted as taken out before, or as many as there is room for, and never more than that
 pub record TakesMore (m : MailboxView) (p q : PortView) (old new : List Message) : Type 0 where
   pub more : List Message
   pub grown : new ≡ old ++ more
-  pub port : q ≡ after_collecting p more
+  pub port : Collects p more q
   pub most : length more ≤ m.room
-  pub fewer : length more < m.room → HeldAt q.view 0
 
 -- of these messages the first were taken, and the last, which are these, were not
 pub record TakesFirst (old messages lost new : List Message) : Type 0 where

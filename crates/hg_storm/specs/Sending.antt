@@ -4,7 +4,6 @@ use Rattle.hg_life.specs.Spelling.{spelling}
 use Rattle.hg_life.specs.NodeView.{node_rows}
 use Rattle.hg_mail.specs.declared.message.Message.{Message}
 use Rattle.hg_mail.specs.Messages.{sender_view}
-use Rattle.hg_mail.specs.Rule.{HeldAt}
 use Rattle.hg_mail.specs.Mailboxes.{IsPortOf, MailboxView, PortView}
 use Rattle.hg_board.specs.Table.{node_at}
 use Rattle.hg_board.specs.Seats.{SharedNode, SeatView}
@@ -40,10 +39,9 @@ pub record Sends (from place : ℕ) (rows : List (List ℕ)) (p q : PortView) : 
 abbrev pub NoneBack : PortView → PortView → Type 0
 NoneBack p q = q.count.full ≡ p.count.full
 
--- one did: the mailbox held as many messages as it has room for, and so many were put in and counted, as the port has seen
+-- one did: so many were counted, and not noted as taken out, as there is room for, which the port counts
 pub record WasFull (m : MailboxView) (p q : PortView) : Type 0 where
   pub once : q.count.full ≡ p.count.full + 1
-  pub held : HeldAt q.view m.room
   pub counted : m.room ≤ q.count.seen
 
 -- how many rows the node had at some time of the call: at these first changes of what the seat then has seen

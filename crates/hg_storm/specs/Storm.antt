@@ -50,7 +50,8 @@ world_again members ends = world_of (stakes_of members) members.coin (unfrozen e
 
 -- The members' nodes, which began without rows, took their turns between threads. Each is that of its member still, and this
 -- is what those that have nodes sent each other, in how many turns each made no event, and what each refused; in each of its
--- turns each took what its mailbox had, by the ports that did it. Then the first
+-- turns each took all that its mailbox had been given when the turn collected, or as many as it has room for, by the ports that did
+-- it. Then the first
 -- of those that have nodes pulled from each other one, each other one from it, and these nodes settled. Each history is that
 -- of a node, and the run is safe.
 pub record IsStorm (members : MemberList) (times room first : ℕ) (s : Storm) : Type 0 where

@@ -65,12 +65,12 @@ HaveRoom room mails = (k : ℕ) (m : MailboxView) → k < length mails → (get_
 pub record IsNewSender (me : ℕ) (m : MailboxView) (q : PortView) : Type 0 where
   pub of : IsPortOf m q
   pub view : q.view ≡ sender_view me []
-  pub count : q.count ≡ one_part
+  pub count : q.count ≡ one_part m.room
 
 pub record IsNewReceiver (m : MailboxView) (q : PortView) : Type 0 where
   pub of : IsPortOf m q
   pub view : q.view ≡ receiver_view []
-  pub count : q.count ≡ one_part
+  pub count : q.count ≡ one_part m.room
 
 abbrev pub AreNewSenders : ℕ → List MailboxView → List PortView → Type 0
 AreNewSenders me mails ports = Pairs (λ _. IsNewSender me) mails ports

@@ -24,7 +24,7 @@ use Rattle.hg_storm.specs.declared.desk.Desk.{Desk}
 use Rattle.hg_storm.specs.Drawing.{Draws, HasDrawn, IsLastDraw, times_drawn}
 use Rattle.hg_storm.specs.Fates.{HasFates}
 use Rattle.hg_storm.specs.Keeping.{Secrets, rows_made, rows_made_in}
-use Rattle.hg_storm.specs.Receiving.{IsInbox, collector}
+use Rattle.hg_storm.specs.Receiving.{HasCollectedAlone, IsInbox}
 use Rattle.hg_storm.specs.Sending.{HasSent, bytes_seen}
 
 -- ---- turns that made nothing
@@ -177,7 +177,7 @@ pub record Standing (plan : Plan) (place : ℕ) (mails : List MailboxView) (p : 
   pub seat : IsSeat accepts_by p s
   pub fates : HasFates accepts_by p s log.intake.taken.items log.intake.refused.items
   pub inbox : (m : MailboxView) → IsInbox (get_or mails own m) log.intake.taken.items box
-  pub alone : box.count ≡ collector made
+  pub alone : HasCollectedAlone made box.count
   pub served : HasServedAll plan own place drawn (bytes_seen p s) mails log.dispatches.items qs
   pub room : 0 < p.start.start.limit
   pub some : 0 < made → 0 < length (bytes_seen p s)
@@ -213,7 +213,7 @@ pub record HasStopped (mails : List MailboxView) (p : SharedNode Secrets) (made 
   pub fates : HasFates accepts_by p d.seat d.log.intake.taken.items d.log.intake.refused.items
   pub lost : List Message
   pub inbox : (m : MailboxView) → IsInbox (get_or mails d.me m) (d.log.intake.taken.items ++ lost) d.inbox
-  pub alone : (d.inbox.count ≡ collector made) ⊎ (d.inbox.count ≡ collector (made + 1))
+  pub alone : HasCollectedAlone made d.inbox.count ⊎ HasCollectedAlone (made + 1) d.inbox.count
   pub rows : rows_made d.seat + d.log.idle ≡ made
   pub put : (k : ℕ) (m : MailboxView) (c : Dispatch) (q : PortView) → k < length mails →
       HasPut d.me (bytes_seen p d.seat) (get_or mails k m) (get_or d.log.dispatches.items k c) (get_or d.ports.items k q)

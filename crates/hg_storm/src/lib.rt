@@ -2,8 +2,8 @@
 //! mailbox has (`receive`), makes an event, draws another member, and sends it, in order, the rows that it was not sent
 //! yet, until its mailbox is full (`send_rows`). After the joins the nodes are a world again, pull, and settle.
 //! The layers above use `IsStorm`: by the names of rows, what each member sent each other, and what each took and refused; how
-//! many turns made nothing; that each turn took what its mailbox had, as the mailbox's port has counted; and the world after
-//! these pulls. Of one node they use `HasFates`: each message that was taken is held, or was refused by what the node held at
+//! many turns made nothing; that each turn took all that its mailbox had been given when the turn collected, or as many as it
+//! has room for, as the mailbox's port has counted; and the world after these pulls. Of one node they use `HasFates`: each message that was taken is held, or was refused by what the node held at
 //! a moment that is told (`RefusedMessage`), and each change made through the seat is a row made, or that of a message; what
 //! leaves it so (`calls_keep_fates`); and that it is so of the node's whole history, once others only marked (`fates_last`).
 //!

@@ -14,10 +14,9 @@ use hg_sign::Signer;
 use std::alloc::Global;
 use std::sync::Wait;
 
-/// Takes messages out of a mailbox, as many as there is room for or as it holds, and puts their events into the node of its
-/// receiver, in order; the port counts that it collected. After `Memory` none was taken out, or the first of them are taken and
-/// the others are lost. The port may be any that takes out: only a step at which the mailbox held none shows that it did,
-/// whatever else the port knows.
+/// Takes messages out of a mailbox, all that are counted and not noted as taken out, or as many as there is room for, and puts
+/// their events into the node of its receiver, in order; the port counts that it collected so. After `Memory` none was taken
+/// out, or the first of them are taken and the others are lost. The port may be any that takes out.
 pub fn receive<V: Signer + Drop, R: Wait>(
     rt: &R,
     alloc: Global,

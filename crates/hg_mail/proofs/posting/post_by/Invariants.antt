@@ -7,6 +7,7 @@ abbrev pub invariant-tries : goal.invariant-tries
 invariant-tries g l = record {
   letter : l.letter ≡ l.fn.message;
   room : l.room ≡ ruled_capacity l.queue;
+  same_room : l.seat.me.0.room ≡ l.fn.seat.me.0.room;
   pass : IsSamePass l.fn.pass l.pass;
   view : view l.pass ≡ view l.fn.pass;
   table : l.seat.table_id ≡ l.fn.seat.table_id;

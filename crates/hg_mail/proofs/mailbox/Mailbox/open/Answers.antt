@@ -6,4 +6,4 @@ pub ruled-requires-clause-rule : goal.ruled-requires-clause-rule
 ruled-requires-clause-rule c = begins
 
 pub vacant-requires : goal.vacant-requires
-vacant-requires c = count.begins
+vacant-requires c = count.begins _

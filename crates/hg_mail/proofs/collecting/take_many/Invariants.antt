@@ -1,14 +1,13 @@
 use Rattle.std.proofs.Common.{◌≡◌, ◌≤◌, length, vec_capacity, vec_len}
-use Rattle.crossbeam_queue.specs.Passes.{IsSamePass, ruled_capacity, view}
+use Rattle.crossbeam_queue.specs.Passes.{IsSamePass, view}
 use Rattle.hg_mail.specs.Messages.{after_taking}
-use Rattle.hg_mail.proofs.collecting.take_most.Given as goal
+use Rattle.hg_mail.proofs.collecting.take_many.Given as goal
 
-abbrev pub invariant-loop-i : goal.invariant-loop-i
-invariant-loop-i g l = record {
+abbrev pub invariant-messages : goal.invariant-messages
+invariant-messages g l = record {
   pass : IsSamePass l.fn.pass l.pass;
   view : view l.pass ≡ after_taking (view l.fn.pass) l.taken.items;
   count : vec_len l.taken ≡ l.i;
   long : length l.taken.items ≡ l.i;
-  space : l.room ≤ vec_capacity l.taken;
-  room : l.room ≡ ruled_capacity l.queue;
+  space : l.most ≤ vec_capacity l.taken;
 }
