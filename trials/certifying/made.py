@@ -1,4 +1,4 @@
-"""Worlds for certificates: those of bench/hostile, in which members also have stakes and join below several others' events."""
+"""Worlds for certificates: those of trials/hostile, in which members also have stakes and join below several others' events."""
 
 from hostile.dealers import Apart, DoubleDealing
 from hostile.world import World

@@ -1,21 +1,13 @@
 """Damaged certificates: of bytes, rows and entries, some signed anew by the members' secrets."""
 
-import struct
-
-from . import plain
-
-
-def spelled(rows, order):
-    entries = b"".join(struct.pack(">IIQ", *entry) for entry in order)
-    return b"HGP1" + struct.pack(">I", len(rows)) + b"".join(rows) + struct.pack(">I", len(order)) + entries
+from certificate import read_form
+from damaged_files import certificate_of
+from event import signed_event
 
 
 def signed(members, creator, parents, time):
     """An event of this creator, who need be no member."""
-    form, kind = (b"HGE2", len(parents) - 1) if len(parents) > 2 else (b"HGE1", min(len(parents), 1))
-    body = form + struct.pack(">HB", creator, kind) + b"".join(parents) + struct.pack(">QH", time, 0)
-    secret = members.secrets[creator] if creator < len(members.secrets) else b""
-    return body + plain.mac(secret, body)
+    return signed_event(members.secret(creator), creator, parents[0] if parents else None, parents[1:], time, b"")
 
 
 class Damages:
@@ -23,8 +15,8 @@ class Damages:
 
     def __init__(self, draw, members, data):
         self.draw, self.members, self.data = draw, members, data
-        self.rows, self.order = plain.Reader(data).certificate()
-        self.bytes = [row.data for row in self.rows]
+        self.rows, self.order = read_form(data)
+        self.bytes = [row.spelling for row in self.rows]
 
     def one(self):
         kinds = [name for name in dir(self) if name.startswith("do_")]
@@ -34,7 +26,7 @@ class Damages:
         return self.draw.randrange(len(self.rows) + 1)
 
     def with_rows(self, rows):
-        return spelled(rows, self.order)
+        return certificate_of(rows, self.order)
 
     def do_byte(self):
         at = self.draw.randrange(len(self.data))
@@ -81,22 +73,22 @@ class Damages:
         if order:
             entry, field = self.draw.choice(order), self.draw.randrange(3)
             entry[field] ^= self.draw.choice((1, 2, 256))
-        return spelled(self.bytes, order)
+        return certificate_of(self.bytes, order)
 
     def do_fewer_entries(self):
-        return spelled(self.bytes, self.order[:self.draw.randrange(len(self.order) + 1)])
+        return certificate_of(self.bytes, self.order[:self.draw.randrange(len(self.order) + 1)])
 
     def do_more_entries(self):
-        return spelled(self.bytes, self.order + [self.order[-1] if self.order else (0, 1, 1)])
+        return certificate_of(self.bytes, self.order + [self.order[-1] if self.order else (0, 1, 1)])
 
     def do_swap_entries(self):
         order = list(self.order)
         if len(order) > 1:
             at = self.draw.randrange(len(order) - 1)
             order[at], order[at + 1] = order[at + 1], order[at]
-        return spelled(self.bytes, order)
+        return certificate_of(self.bytes, order)
 
     def do_count(self):
         at = 4 if self.draw.random() < 0.5 else len(self.data) - 16 * len(self.order) - 4
         count = self.draw.choice((0, 1, 1_048_576, 1_048_577, 2**32 - 1))
-        return self.data[:at] + struct.pack(">I", count) + self.data[at + 4:]
+        return self.data[:at] + count.to_bytes(4, "big") + self.data[at + 4:]
