@@ -73,7 +73,7 @@ def follow(members, own, before, events, time, outcome, after, changed=False):
     if now.records and now.records[-1].kind == MARKS and len(now.records) > len(journal.records) + len(came):
         came.append((MARKS, number(len(rows), 4) + ONE_SHARE))
     file = before or b""
-    for write in writes(journal, file, came):
-        file = written(file, *write)
+    for at, content, _ in writes(journal, file, came):
+        file = written(file, at, content)
     need(file == after, "the file is not the one before with the writes that FORMATS tells")
     return journal, came, made

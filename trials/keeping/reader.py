@@ -7,6 +7,7 @@ from .events import end_to_end, first_event, name_of, number, signature_of
 
 TAKEN, MADE, MARKS = 1, 2, 3
 RECORD_HEAD = 4     # a gate, the kind, the length
+PART = 64_000       # bytes of records that are enough for a part
 
 Record = namedtuple("Record", "at kind body")
 # "anew", "foreign", "broken" at a place, or "read": then the records, the rows that come of them, and where the closed gate is.
@@ -100,21 +101,35 @@ def read(data, members, own):
     return Journal("read", at, records, rows)
 
 
+def parts(records):
+    """The records, kind and body, as they are stored: each part by two writes. Events that came are in one part until they have
+    more than 64,000 bytes with the gates between them; each other record is a part of its own."""
+    part, held = [], 0
+    for kind, body in records:
+        if part and (kind != TAKEN or part[-1][0] != TAKEN or held > PART):
+            yield part
+            part, held = [], 0
+        held += (1 if part else 0) + RECORD_HEAD - 1 + len(body)
+        part.append((kind, body))
+    if part:
+        yield part
+
+
 def writes(journal, before, records):
     """The writes, each a place and bytes, by which a file that is such a journal comes to have these records, kind and body,
-    behind its own."""
+    behind its own; with each write how many of the records are opened by it."""
     end = journal.at
     if journal.word == "anew":
         end = 9
         if before[:1] != b"\0":
-            yield 0, b"\0"
-        yield 1, head_of(journal.rows.members, journal.rows.own) + b"\0"
-        yield 0, b"\1"
-    for kind, body in records:
-        record = number(kind, 1) + number(len(body), 2) + body
-        yield end + 1, record + b"\0"
-        yield end, b"\1"
-        end += 1 + len(record)
+            yield 0, b"\0", 0
+        yield 1, head_of(journal.rows.members, journal.rows.own) + b"\0", 0
+        yield 0, b"\1", 0
+    for part in parts(records):
+        piece = b"\1".join(number(kind, 1) + number(len(body), 2) + body for kind, body in part)
+        yield end + 1, piece + b"\0", 0
+        yield end, b"\1", len(part)
+        end += 1 + len(piece)
 
 
 def written(data, at, content):
