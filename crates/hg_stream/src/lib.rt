@@ -6,6 +6,7 @@
 //! From `main` of `hg_cli`, shortened:
 //!
 //! ```text
+//! let _held = hold_streams(&rt);
 //! let mut err = Stream::new(rt.stderr());
 //! let mut shelf = RealShelf::new(&rt);
 //! let mut disk = RealDisk::new(&rt);
@@ -15,12 +16,14 @@
 #![tactic(auto)]
 
 mod disk;
+mod held;
 mod incoming;
 mod shelf;
 mod stream;
 mod words;
 
 pub use disk::RealDisk;
+pub use held::{HeldStreams, hold_streams};
 pub use incoming::Incoming;
 pub use shelf::RealShelf;
 pub use stream::Stream;
