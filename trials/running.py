@@ -15,7 +15,7 @@ from keeping.events import Member, member_file, name_of, spelled  # noqa: E402
 from keeping.reader import read  # noqa: E402
 
 MEMBERS, EVENTS, JOURNAL, CALLS = "kept.toml", "events.bin", "journal", "calls"
-# The node that is kept is the first member's. The others make events; two of three are no supermajority, so no fame is decided.
+# The node that is kept is the first member's. The others make events: two of three, no supermajority, so no fame is decided.
 GROUP = [Member(name, name.encode() * 16, 1) for name in ("O", "A", "B")]
 OWN, MAKERS = 0, (1, 2)
 SECONDS_MOST = 60
@@ -49,8 +49,8 @@ def made_events(count):
     return events
 
 
-def keep_words(disk=JOURNAL):
-    return ["keep", "--members", MEMBERS, "--events", EVENTS, "--own", GROUP[OWN].name, "--disk", disk]
+def keep_words(disk=JOURNAL, events=EVENTS):
+    return ["keep", "--members", MEMBERS, "--events", events, "--own", GROUP[OWN].name, "--disk", disk]
 
 
 class Room:
@@ -88,6 +88,7 @@ class Room:
     def run(self, words, program=None, closed=(), out=None, err=None, given=b"", limits=(), environment=None):
         """What a run comes to with these words, a text or a list. Standard streams of these numbers are closed; output and
         error go to files of these names, if any; `given` is the input; limits are of resources, each with its most."""
+
         def prepare():
             signal.signal(signal.SIGXFSZ, signal.SIG_IGN)
             for kind, most in limits:
@@ -105,7 +106,7 @@ class Room:
                     told = child.communicate(given, SECONDS_MOST)
                 except subprocess.TimeoutExpired:
                     child.kill()
-                    raise Differs(f"no end in time: {words}") from None
+                    raise Differs(f"{words}: no end in time") from None
         return Outcome(child.returncode, *(text or b"" for text in told))
 
     def keep(self, *words, disk=JOURNAL, **how):

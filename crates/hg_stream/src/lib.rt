@@ -1,7 +1,8 @@
 //! What a program on a real machine is run over: the machine's files as a shelf, one of them as a disk, a standard stream
-//! as a sink or as a source, and the words of its command line. Faults are counted as the traits of hg_io ask. What a real
-//! file or stream holds no clause tells; of one that tells its bytes, as one in memory does, clauses say that just what is
-//! asked for is read and written.
+//! as a sink or as a source, and the words of its command line. First it holds the numbers of standard streams that are
+//! closed, so that no file gets one. Faults are counted as the traits of hg_io ask. What a real file or stream holds no
+//! clause tells; of one that tells its bytes, as one in memory does, clauses say that just what is asked for is read and
+//! written, and so that no fault of a read or a write is passed over.
 //!
 //! From `main` of `hg_cli`, shortened:
 //!
