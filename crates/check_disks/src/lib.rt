@@ -18,6 +18,8 @@ mod disks;
 #[cfg(test)]
 mod environment;
 #[cfg(test)]
+mod failing;
+#[cfg(test)]
 mod files;
 #[cfg(test)]
 mod keeping;

@@ -20,7 +20,7 @@ ghost use Rattle.hg_top.specs.Printing.{status_code};
 
 use hg_io::NoGate;
 use hg_model::Memory;
-use hg_stream::{RealDisk, RealShelf, Stream, words_of};
+use hg_stream::{RealDisk, RealShelf, Stream, hold_streams, words_of};
 use hg_top::{NoWords, Status, hashgraph, without_words};
 use std::process::ExitCode;
 
@@ -43,6 +43,7 @@ fn exit_of(status: Status) -> ExitCode
 }
 
 fn main(rt: HostRuntime) -> ExitCode {
+    let _held = hold_streams(&rt);
     let mut err = Stream::new(rt.stderr());
     let status = match words_in(words_of(&rt)) {
         Ok(words) => {

@@ -1,8 +1,8 @@
-ghost use Rattle.std.specs.Prelude.{◌≡◌, ◌≤◌, true, length, IfOk, OnOk};
+ghost use Rattle.std.specs.Prelude.{◌≡◌, ◌≤◌, true, length, IfOk, IsSome, OnErr, OnOk};
 ghost use Rattle.std.specs.Fs.{new_options, with_create, with_read, with_write};
 ghost use Rattle.hg_io.specs.Faults.{Rose};
 ghost use Rattle.hg_io.specs.FileView.{unknown};
-ghost use Rattle.hg_stream.specs.Places.{IsReadAt, IsWrittenAt};
+ghost use Rattle.hg_stream.specs.Places.{IsReadAt, IsWrittenAt, OfOpen};
 
 use hg_io::{Disk, Failed};
 use std::fs::{OpenFile, OpenOptions};
@@ -53,7 +53,7 @@ fn opening() -> OpenOptions
 /// Reads at a place.
 fn read_at<F: Read + Seek>(file: &mut F, at: u64, buf: &mut [u8]) -> io::Result<usize>
     ensures within { IfOk result (λ k. k ≤ length buf.new) }
-    ensures read { IfOk result (IsReadAt F.stream_position F.remaining file.old file.new at buf.new) }
+    ensures read { IfOk result (λ k. IsReadAt F.stream_position F.remaining at buf.new k file.old file.new) }
 {
     file.seek(SeekFrom::Start(at))?;
     file.read(buf)
@@ -61,14 +61,13 @@ fn read_at<F: Read + Seek>(file: &mut F, at: u64, buf: &mut [u8]) -> io::Result<
 
 /// Writes all of a piece at a place.
 fn write_at<W: Write + Seek>(file: &mut W, at: u64, piece: &[u8]) -> io::Result<()>
-    ensures { OnOk result (IsWrittenAt W.stream_position W.contents file.old file.new at piece.now) }
+    ensures { OnOk result (IsWrittenAt W.stream_position W.contents at piece.now file.old file.new) }
 {
     file.seek(SeekFrom::Start(at))?;
     file.write_all(piece)
 }
 
 impl<R: Files> Disk for RealDisk<'_, R> {
-    ghost use Rattle.std.specs.Prelude.{IsSome};
     ghost use Rattle.hg_io.specs.FileLaws.{unknown_is_file};
 
     ghost file = { λ _. unknown };
@@ -96,14 +95,33 @@ impl<R: Files> Disk for RealDisk<'_, R> {
         }
     }
 
-    fn read(&mut self, _name: &str, at: u64, buf: &mut [u8]) -> Result<usize, Failed> {
+    fn read(&mut self, _name: &str, at: u64, buf: &mut [u8]) -> Result<usize, Failed>
+        requires started { IsSome self.old.file }
+        // A file that tells its position and its bytes gave those at this place, and none only at its end.
+        ensures read { IfOk result (λ k. OfOpen (IsReadAt R.File.stream_position R.File.remaining at buf.new k)
+            self.old.file self.new.file) }
+        // With this, all that the trait ensures.
+        ensures within { IfOk result (λ k. k ≤ length buf.new) }
+        ensures started { IsSome self.new.file }
+        ensures cause { OnErr result (Rose self.old.faults self.new.faults) }
+        ensures counts { self.old.faults ≤ self.new.faults }
+    {
         match read_at(self.file.as_mut().unwrap(), at, buf) {
             Ok(count) => Ok(count),
             Err(_) => Err(fault(&mut self.faults)),
         }
     }
 
-    fn write(&mut self, _name: &str, at: u64, piece: &[u8]) -> Result<(), Failed> {
+    fn write(&mut self, _name: &str, at: u64, piece: &[u8]) -> Result<(), Failed>
+        requires started { IsSome self.old.file }
+        // A file that tells its position and its bytes got the whole piece at this place.
+        ensures written { OnOk result (OfOpen (IsWrittenAt R.File.stream_position R.File.contents at piece.now)
+            self.old.file self.new.file) }
+        // With this, all that the trait ensures.
+        ensures started { IsSome self.new.file }
+        ensures cause { OnErr result (Rose self.old.faults self.new.faults) }
+        ensures counts { self.old.faults ≤ self.new.faults }
+    {
         match write_at(self.file.as_mut().unwrap(), at, piece) {
             Ok(()) => Ok(()),
             Err(_) => Err(fault(&mut self.faults)),

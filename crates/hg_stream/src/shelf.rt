@@ -1,4 +1,7 @@
-ghost use Rattle.std.specs.Prelude.{◌≡◌, None};
+ghost use Rattle.std.specs.Prelude.{◌≡◌, ◌<◌, ◌≤◌, None, length, IfOk, IsSome, OnErr};
+ghost use Rattle.std.specs.Io.KnownBytes.{ReadConsumes};
+ghost use Rattle.hg_io.specs.Faults.{Rose};
+ghost use Rattle.hg_stream.specs.Places.{OfOpen};
 
 use hg_io::{Failed, Shelf};
 use std::fs;
@@ -30,8 +33,6 @@ impl<'a, R: Files> RealShelf<'a, R> {
 }
 
 impl<R: Files> Shelf for RealShelf<'_, R> {
-    ghost use Rattle.std.specs.Prelude.{IsSome};
-
     ghost holds = { λ _. None };
 
     ghost left = { λ _. None };
@@ -56,7 +57,19 @@ impl<R: Files> Shelf for RealShelf<'_, R> {
         }
     }
 
-    fn read(&mut self, _name: &str, buf: &mut [u8]) -> Result<usize, Failed> {
+    fn read(&mut self, _name: &str, buf: &mut [u8]) -> Result<usize, Failed>
+        requires started { IsSome self.old.file }
+        requires room { 0 < length buf.old }
+        // A file that tells what is to come gave its next bytes, none only at its end, and loses nothing at `Failed`.
+        ensures bytes { OfOpen (λ old new. ReadConsumes (R.File.remaining old) (R.File.remaining new) result buf.new)
+            self.old.file self.new.file }
+        // With this, all that the trait ensures.
+        ensures within { IfOk result (λ k. k ≤ length buf.new) }
+        ensures started { IsSome self.new.file }
+        ensures cause { OnErr result (Rose self.old.faults self.new.faults) }
+        ensures counts { self.old.faults ≤ self.new.faults }
+        ensures begun { self.new.starts ≡ self.old.starts }
+    {
         match self.file.as_mut().unwrap().read(buf) {
             Ok(count) => Ok(count),
             Err(_) => {

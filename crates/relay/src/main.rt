@@ -25,7 +25,7 @@ use crate::top::{Relayed, relay};
 use hg_io::{Failed, Sink, write_all};
 use hg_model::Memory;
 use hg_report::text_of;
-use hg_stream::{Incoming, RealDisk, RealShelf, Stream, words_of};
+use hg_stream::{Incoming, RealDisk, RealShelf, Stream, hold_streams, words_of};
 use hg_top::{Status, report_status, status_of};
 use std::fs;
 use std::process::ExitCode;
@@ -100,6 +100,7 @@ fn end<E: Sink>(err: &mut E, ended: Result<Status, Status>) -> ExitCode
 }
 
 fn main(rt: HostRuntime) -> ExitCode {
+    let _held = hold_streams(&rt);
     let ended = match words_in(words_of(&rt)) {
         Ok(words) => run(&rt, words.as_slice()),
         Err(status) => Err(status),
