@@ -9,7 +9,6 @@ import sys
 from collections import namedtuple
 
 ROOT = os.path.dirname(os.path.dirname(os.path.realpath(__file__)))
-sys.path.append(os.path.join(ROOT, "bench"))
 
 from keeping.events import Member, member_file, name_of, spelled  # noqa: E402
 from keeping.reader import read  # noqa: E402
