@@ -1,8 +1,9 @@
 -- The nodes on the way through the work.
-use Rattle.std.proofs.Common.{◌≡◌, inl, inr, ℕ, ◌+◌, ◌<◌, ◌≤◌, ◌^◌, List, [], ◌∷◌, take, length, get_or, fold, is_some, Option, Some, None, refl, sym, ◌∙◌, ap, ap₂, subst}
-use Rattle.std.proofs.lemmas.List.Sums.{fold_more}
+use Rattle.std.proofs.Common.{◌≡◌, inl, inr, ℕ, ◌+◌, ◌<◌, ◌≤◌, ◌^◌, List, [], ◌∷◌, ◌++◌, take, drop, length, get_or, fold, is_some, Option, Some, None, refl, sym, ◌∙◌, ap, ap₂, subst, arith}
+use Rattle.std.proofs.lemmas.List.{drop-take, take-append-drop, take-take}
+use Rattle.std.proofs.lemmas.List.Sums.{fold-append, fold_more, fold_push}
 use Rattle.std.proofs.lemmas.Option.{slice_get_within}
-use Rattle.std.specs.Prelude.{IsSome}
+use Rattle.std.specs.Prelude.{IsErrOf, IsSome, Result, Ok, Err}
 use Rattle.std.specs.Option.{ForSome}
 use Rattle.hg_io.specs.FileView.{FileView}
 use Rattle.hg_model.specs.declared.row.Row.{Row}
@@ -28,6 +29,9 @@ use Rattle.hg_outcome.specs.Ledger.{block_of, marked_block}
 use Rattle.hg_play.specs.Lines.{kept_block}
 use Rattle.hg_play.specs.Outcomes.{kept_outcome}
 use Rattle.hg_play.specs.Sites.{IsMadeWith}
+use Rattle.hg_life.specs.declared.answers.PutAnswer.{PutAnswer}
+use Rattle.hg_journal.specs.Staging as batch
+use Rattle.hg_journal.specs.Staging.{PutsFront, StopsKeepPuts}
 use Rattle.hg_journal.specs.Stored.{ComesOfMaking, MakesNode, StopsKeepMaking, StopsKeepMarks, StopsKeepPut, StoredView, StoresNode}
 use Rattle.hg_keep.specs.declared.kept.PutCounts.{PutCounts}
 use Rattle.hg_keep.specs.declared.kept.KeepReport.{KeepReport}
@@ -35,6 +39,16 @@ use Rattle.hg_keep.specs.declared.kept.Making.{Making}
 use Rattle.hg_keep.specs.Keeping.{HasRow, IsMadeSome, IsMadeWithOf, IsOnTheWay, IsPutSome, IsSettledSome, IsTurn, KeptOf, MakesAt, MakesOf, PutsAll, PutsSome, SettlesOf, TurnOf, counted, no_counts, put_one, puts, settled, told_of}
 use Rattle.hg_keep.specs.Stops.{StopsLeave, StopsLeaveOf}
 use Rattle.hg_keep.proofs.StopLaws.{leaves_either, leaves_on, leaves_still, leaves_wider, some_is, some_value, told_still}
+
+-- an answer is not two errors
+pub one_error : {T E : Type 0} (r : Result T E) (d e : E) → (d ≡ e → ⊥) → IsErrOf r d → IsErrOf r e → ⊥
+one_error {T} {E} r d e other is also =
+    let both : (let q : Result T E = Err d in q) ≡ Err e = sym is ∙ also in
+    let same : d ≡ e = cc in
+    other same
+
+pub ok_error : {T E : Type 0} (r : Result T E) (x : T) (e : E) → r ≡ Ok x → IsErrOf r e → ⊥
+ok_error r x e is of = absurd cc
 
 module _ {K : Type 0} (accepts : K → Accepts) where
   puts_start_from : (v : NodeView K × PutCounts) (events : List (List ℕ)) → (fold (put_one accepts) v events).0.start ≡ v.0.start
@@ -83,7 +97,7 @@ module _ {K : Type 0} (accepts : K → Accepts) where
 
   -- the nodes that a stop leaves before any event is put
   pub stops_none : (file : FileView) (s : StoredView K) (events : List (List ℕ)) → StoresNode accepts file s → StopsLeaveOf accepts (IsPutSome accepts events) s.node file file
-  stops_none file s events stores v is told = leaves_still accepts v.start (IsPutSome accepts events v) file v s.gate refl (0, refl) (stores v is) told
+  stops_none file s events stores v is told = leaves_still accepts v.start (IsPutSome accepts events v) file v s.gate refl (0, refl) (stores.kept v is) told
 
   -- .. and while one more is put
   pub stops_more : (first : Option (NodeView K)) (events : List (List ℕ)) (i : ℕ) (bytes : List ℕ) (now : Option (NodeView K)) (counts : PutCounts) (a b c : FileView) →
@@ -98,6 +112,72 @@ module _ {K : Type 0} (accepts : K → Accepts) where
       leaves_on accepts v.start (IsPutSome accepts events v) a b c (before v is told)
       (leaves_either accepts v.start (IsPutSome accepts events v) b c so.0 keeps.0 (puts_start v (take i events))
       (ap (λ (x : NodeView K). x.start) keeps.1 ∙ puts_start v (take i events)) (i, refl) (i + 1, keeps.1 ∙ sym last) keeps.2)
+
+  -- ---- putting in batches
+
+  -- a node and the counts by the answers
+  abbrev by_answers : PutCounts → NodeView K × List PutAnswer → NodeView K × PutCounts
+  by_answers c so_far = (so_far.0, fold counted c so_far.1)
+
+  counts_by : (c : PutCounts) (events : List (List ℕ)) (w : NodeView K) (answers : List PutAnswer)
+      → fold (put_one accepts) (w, fold counted c answers) events ≡ by_answers c (fold (batch.put_one accepts) (w, answers) events)
+  counts_by c [] w answers = refl
+  counts_by c (bytes ∷ events) w answers =
+      ap (λ (k : PutCounts). fold (put_one accepts) (after_put accepts w bytes, k) events) (sym (fold_push counted c answers (put_answer accepts w bytes)))
+      ∙ counts_by c events (after_put accepts w bytes) (answers ++ put_answer accepts w bytes ∷ [])
+
+  take_on : (n m : ℕ) (xs : List (List ℕ)) → take (n + m) xs ≡ take n xs ++ take m (drop n xs)
+  take_on n m xs =
+      let parts = take-append-drop n (take (n + m) xs) in
+      sym (rw (take-take n (n + m) xs (omega arith), drop-take n m xs) at parts)
+
+  -- first ones of the events that are left, after the first i
+  puts_on : (v : NodeView K) (events : List (List ℕ)) (i n : ℕ)
+      → puts accepts v (take (i + n) events) ≡ by_answers (puts accepts v (take i events)).1 (batch.puts accepts (puts accepts v (take i events)).0 (take n (drop i events)))
+  puts_on v events i n =
+      ap (fold (put_one accepts) (v, no_counts)) (take_on i n events)
+      ∙ fold-append (put_one accepts) (v, no_counts) (take i events) (take n (drop i events))
+      ∙ counts_by (puts accepts v (take i events)).1 (take n (drop i events)) (puts accepts v (take i events)).0 []
+
+  module _ (first : Option (NodeView K)) (events rest : List (List ℕ)) (i : ℕ) (now : Option (NodeView K)) (counts : PutCounts) (left : rest ≡ drop i events) (so_far : PutsAll accepts (take i events) first now counts) where
+    pub puts_batch : (next : Option (NodeView K)) (answers : List PutAnswer) (more : PutCounts) → PutsFront accepts now rest answers next → more ≡ fold counted counts answers
+        → PutsAll accepts (take (i + length answers) events) first next more
+    puts_batch next answers more front counted_is v is =
+        let here = so_far v is in
+        let one = front (puts accepts v (take i events)).0 here.0 in
+        let goes = puts_on v events i (length answers) in
+        let same : take (length answers) (drop i events) ≡ take (length answers) rest = ap (take (length answers)) (sym left) in
+        let goes_rest = rw same at goes in (
+          one.1 ∙ ap (λ (x : NodeView K). Some x) (one.2.node ∙ ap (λ (x : NodeView K × PutCounts). x.0) (sym goes_rest)),
+          counted_is ∙ ap₂ (λ (c : PutCounts) (given : List PutAnswer). fold counted c given) here.1 one.2.given ∙ ap (λ (x : NodeView K × PutCounts). x.1) (sym goes_rest),
+        )
+
+    -- .. where memory ran out
+    pub puts_batch_some : (next : Option (NodeView K)) (answers : List PutAnswer) → PutsFront accepts now rest answers next → PutsSome accepts events first next
+    puts_batch_some next answers front v is =
+        let all = puts_batch next answers (fold counted counts answers) front refl v is in
+        ((puts accepts v (take (i + length answers) events)).0, all.0, (i + length answers, refl))
+
+    -- the nodes that a stop leaves meanwhile
+    pub stops_batch : (then : Option (NodeView K)) (a b c : FileView) → is_some b.reads ≡ is_some a.reads → StopsLeaveOf accepts (IsPutSome accepts events) first a b
+        → StopsKeepPuts accepts rest b c now then → StopsLeaveOf accepts (IsPutSome accepts events) first a c
+    stops_batch then a b c shown before step v is told =
+        let so = puts accepts v (take i events) in
+        let keeps = step so.0 (so_far v is).0 (told_still a.reads b.reads shown told) in
+        let n = keeps.1.0.0 in
+        let goes = puts_on v events i n in
+        let last : keeps.0 ≡ (puts accepts v (take (i + n) events)).0 =
+        keeps.1.0.2 ∙ ap (λ (l : List (List ℕ)). (batch.puts accepts so.0 (take n l)).0) left ∙ ap (λ (x : NodeView K × PutCounts). x.0) (sym goes) in
+        leaves_on accepts v.start (IsPutSome accepts events v) a b c (before v is told)
+        (leaves_either accepts v.start (IsPutSome accepts events v) b c so.0 keeps.0 (puts_start v (take i events))
+        (ap (λ (x : NodeView K). x.start) last ∙ puts_start v (take (i + n) events)) (i, refl) (i + n, last) keeps.2)
+
+  pub front_there : (old : Option (NodeView K)) (events : List (List ℕ)) (answers : List PutAnswer) (new : Option (NodeView K)) → IsSome old → PutsFront accepts old events answers new
+      → IsSome new × (length answers ≤ length events)
+  front_there None events answers new there front = absurd cc
+  front_there (Some v) events answers new there front =
+      let one = front v refl in
+      (subst (λ (o : Option (NodeView K)). IsSome o) (sym one.1) refl, one.2.within)
 
   -- ---- making an event
 
@@ -146,7 +226,7 @@ module _ {K : Type 0} (accepts : K → Accepts) where
 
   -- where nothing is done to the disk
   pub stops_still : (Is : NodeView K → NodeView K → Type 0) → ((v : NodeView K) → Is v v) → (file : FileView) (s : StoredView K) → StoresNode accepts file s → StopsLeaveOf accepts Is s.node file file
-  stops_still Is own file s stores v is told = leaves_still accepts v.start (Is v) file v s.gate refl (own v) (stores v is) told
+  stops_still Is own file s stores v is told = leaves_still accepts v.start (Is v) file v s.gate refl (own v) (stores.kept v is) told
 
   pub makes_none : (node : Option (NodeView K)) → MakesOf accepts None node node None
   makes_none node v is = (v, is, (refl, refl))

@@ -52,7 +52,7 @@ fn work<V: Signer + Drop, D: Disk>(
     ensures counts { (other : List ℕ) → D.faults disk.old other ≤ D.faults disk.new other }
 {
     let opened = stored.node().unwrap().rows() as u64;
-    let counts = put_all(stored, disk, task.events)?;
+    let counts = put_all(alloc, stored, disk, task.events)?;
     let made = make_at(alloc, stored, disk, task.time)?;
     settle(stored, disk)?;
     let outcome = block_of(alloc, members, stored.node().unwrap())?;
