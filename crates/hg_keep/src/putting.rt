@@ -26,7 +26,7 @@ impl PutCounts {
         }
     }
 
-    /// Counts these answers.
+    /// Counts all these answers.
     fn count_all(&mut self, answers: &[PutAnswer])
         requires { self.old.accepted + (self.old.known + self.old.refused) + length answers.now < 2 ^ 63 }
         ensures counted { self.new ≡ fold counted self.old answers.now }
@@ -46,7 +46,8 @@ fn room_for_answers(alloc: Global, count: usize) -> Result<Vec<PutAnswer>, Memor
     Ok(Vec::with_capacity(alloc, count)?)
 }
 
-/// Puts the events to the node, one after the other, in batches that are stored at once.
+/// Puts the events to the node, one after the other, and stores the accepted ones part by part: those of a part at once, which
+/// has 64,000 bytes of records or what is left. Memory for the answers is taken first.
 pub fn put_all<V: Signer + Drop, D: Disk>(
     alloc: Global,
     stored: &mut Stored<V>,
@@ -75,7 +76,7 @@ pub fn put_all<V: Signer + Drop, D: Disk>(
     };
     let mut answers = room_for_answers(alloc, events.len())?;
     let mut done = 0;
-    'batches: while done < events.len() {
+    'parts: while done < events.len() {
         stored.put_batch(disk, &events[done..], &mut answers)?;
         counts.count_all(answers.as_slice());
         done += answers.len();

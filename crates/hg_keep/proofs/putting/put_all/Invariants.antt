@@ -5,8 +5,8 @@ use Rattle.hg_keep.specs.Keeping.{IsPutSome, PutsAll}
 use Rattle.hg_keep.specs.Stops.{StopsLeaveOf}
 use Rattle.hg_keep.proofs.putting.put_all.Given as goal
 
-abbrev pub invariant-batches : goal.invariant-batches
-invariant-batches g l =
+abbrev pub invariant-parts : goal.invariant-parts
+invariant-parts g l =
     let accepts = g.V.Verifier.accepts in
     let disk = g.D.Disk in
     record {
@@ -23,5 +23,5 @@ invariant-batches g l =
       counts : (other : List ℕ) → disk.faults l.fn.disk other ≤ disk.faults l.disk other;
     }
 
-abbrev pub decreases-batches : goal.decreases-batches
-decreases-batches g l = length l.events - l.done
+abbrev pub decreases-parts : goal.decreases-parts
+decreases-parts g l = length l.events - l.done
