@@ -1,7 +1,7 @@
 -- The nodes on the way through the work.
-use Rattle.std.proofs.Common.{◌≡◌, inl, inr, ℕ, ◌+◌, ◌<◌, ◌≤◌, ◌^◌, List, [], ◌∷◌, ◌++◌, take, drop, length, get_or, fold, is_some, Option, Some, None, refl, sym, ◌∙◌, ap, ap₂, subst, arith}
+use Rattle.std.proofs.Common.{◌≡◌, inl, inr, ℕ, ◌+◌, ◌<◌, ◌≤◌, ◌^◌, List, [], ◌∷◌, ◌++◌, take, drop, length, fold, is_some, Option, Some, None, refl, sym, ◌∙◌, ap, ap₂, subst, arith}
 use Rattle.std.proofs.lemmas.List.{drop-take, take-append-drop, take-take}
-use Rattle.std.proofs.lemmas.List.Sums.{fold-append, fold_more, fold_push}
+use Rattle.std.proofs.lemmas.List.Sums.{fold-append, fold_push}
 use Rattle.std.proofs.lemmas.Option.{slice_get_within}
 use Rattle.std.specs.Prelude.{IsErrOf, IsSome, Result, Ok, Err}
 use Rattle.std.specs.Option.{ForSome}
@@ -32,7 +32,7 @@ use Rattle.hg_play.specs.Sites.{IsMadeWith}
 use Rattle.hg_life.specs.declared.answers.PutAnswer.{PutAnswer}
 use Rattle.hg_journal.specs.Staging as staging
 use Rattle.hg_journal.specs.Staging.{PutsFront, StopsKeepPuts}
-use Rattle.hg_journal.specs.Stored.{ComesOfMaking, MakesNode, StopsKeepMaking, StopsKeepMarks, StopsKeepPut, StoredView, StoresNode}
+use Rattle.hg_journal.specs.Stored.{ComesOfMaking, MakesNode, StopsKeepMaking, StopsKeepMarks, StoredView, StoresNode}
 use Rattle.hg_keep.specs.declared.kept.PutCounts.{PutCounts}
 use Rattle.hg_keep.specs.declared.kept.KeepReport.{KeepReport}
 use Rattle.hg_keep.specs.declared.kept.Making.{Making}
