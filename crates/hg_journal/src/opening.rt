@@ -1,4 +1,4 @@
-ghost use Rattle.std.specs.Prelude.{◌≡◌, ◌<◌, ◌≤◌, ◌++◌, ℕ, List, IfErr, IfOk, IsSome, OnOk, codes, is_some, length};
+ghost use Rattle.std.specs.Prelude.{◌≡◌, ◌<◌, ◌≤◌, ◌++◌, ℕ, List, IfErr, IfOk, IsErrOf, IsSome, OnOk, codes, is_some, length};
 ghost use Rattle.std.specs.Int.{to_be_bytes, w16};
 ghost use Rattle.std.specs.Option.{ForSome};
 ghost use Rattle.hg_io.specs.FileView.{IsSynced};
@@ -6,7 +6,7 @@ ghost use Rattle.hg_life.specs.NodeView.{start_of};
 ghost use Rattle.hg_node.specs.Replay.{new_node};
 ghost use Rattle.hg_journal.specs.Faults.{IsFaultCounted, DiskFrame};
 ghost use Rattle.hg_journal.specs.Journal.{head_of};
-ghost use Rattle.hg_journal.specs.Opening.{Finds, LeavesJournal, Opens, StaysUnlessDisk, WritesOnlyAnew};
+ghost use Rattle.hg_journal.specs.Opening.{Finds, LeavesJournal, NeedsMemoryIn, Opens, StaysUnlessDisk, WritesOnlyAnew};
 ghost use Rattle.hg_journal.specs.Stored.{IsNear, IsStored, StoresNode};
 
 use crate::errors::OpenError;
@@ -53,6 +53,7 @@ pub(crate) fn gate_of<V: Signer, D: Disk>(
     ensures near { IfOk result (λ gate. IsNear gate node.new) }
     ensures stored { IfOk result (λ gate. IsStored V.accepts (D.file disk.new) node.new gate) }
     ensures finds { ForSome (D.file disk.old).reads (Finds V.accepts node.old.start node.new result) }
+    ensures free { IsErrOf result OpenError.Memory → ForSome (D.file disk.old).reads (NeedsMemoryIn V.accepts node.old.start) }
     ensures leaves { LeavesJournal V.accepts node.old.start (D.file disk.old) (D.file disk.new) }
     ensures untouched { WritesOnlyAnew head.now (D.file disk.old) (D.file disk.new) }
     ensures refused { IfErr result (λ e. StaysUnlessDisk e (D.file disk.old) (D.file disk.new)) }
