@@ -1,7 +1,7 @@
 //! The program `relay`: the node of one member, kept in a journal, gossips with one peer over standard input and output, for so
 //! many exchanges, and then writes its block to a file and, if asked, a certificate of its order to another.
 //! In each exchange one side asks and the other serves, and then the other way round, so that never both write at once: one of
-//! two is started as `ask`, the other as `serve`. Each event is kept before anybody hears of it, so a killed one can go on.
+//! two is started as `ask`, the other as `serve`. A stop leaves the journal of a node on the way, so a killed one can go on.
 //!
 //! Run by `examples/between-processes/run`; of what that prints (`examples/between-processes/expected.txt`), a line:
 //!
