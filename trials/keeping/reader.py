@@ -102,11 +102,11 @@ def read(data, members, own):
 
 
 def parts(records):
-    """The records, kind and body, as they are stored: each part by two writes. Events that came are in one part until they have
-    more than 64,000 bytes with the gates between them; each other record is a part of its own."""
+    """The records, kind and body, as one call of the program stores them: each part by two writes. They are in one part until they
+    have more than 64,000 bytes with the gates between them."""
     part, held = [], 0
     for kind, body in records:
-        if part and (kind != TAKEN or part[-1][0] != TAKEN or held > PART):
+        if held > PART:
             yield part
             part, held = [], 0
         held += (1 if part else 0) + RECORD_HEAD - 1 + len(body)

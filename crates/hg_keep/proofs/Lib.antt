@@ -1,4 +1,5 @@
 mod EventLaws
 pub mod StopLaws
 pub mod TaskLaws
+pub mod UnderWayLaws
 pub mod WayLaws

@@ -37,7 +37,7 @@ use Rattle.hg_keep.specs.declared.kept.PutCounts.{PutCounts}
 use Rattle.hg_keep.specs.declared.kept.KeepReport.{KeepReport}
 use Rattle.hg_keep.specs.declared.kept.Making.{Making}
 use Rattle.hg_keep.specs.Keeping.{HasRow, IsMadeSome, IsMadeWithOf, IsOnTheWay, IsPutSome, IsSettledSome, IsTurn, KeptOf, MakesAt, MakesOf, PutsAll, PutsSome, SettlesOf, TurnOf, counted, no_counts, put_one, puts, settled, told_of}
-use Rattle.hg_keep.specs.Stops.{StopsLeave, StopsLeaveOf}
+use Rattle.hg_keep.specs.Stops.{StopsLeaveOf}
 use Rattle.hg_keep.proofs.StopLaws.{leaves_either, leaves_on, leaves_still, leaves_wider, some_is, some_value, told_still}
 
 -- a result has one error at most
@@ -227,35 +227,8 @@ module _ {K : Type 0} (accepts : K → Accepts) where
     take_all [] = refl
     take_all (x ∷ xs) = ap (λ (ys : List (List ℕ)). x ∷ ys) (take_all xs)
 
-    way_made : (v w : NodeView K) → IsMadeSome accepts time (puts accepts v events).0 w → IsOnTheWay accepts events time v w
-    way_made v w (inl same) = inl (length events, same ∙ ap (λ (es : List (List ℕ)). (puts accepts v es).0) (sym (take_all events)))
-    way_made v w (inr made) = inr (w, made.0, made.1, inl refl)
-
     pub stops_put : (node : Option (NodeView K)) (a b : FileView) → StopsLeaveOf accepts (IsPutSome accepts events) node a b → StopsLeaveOf accepts (IsOnTheWay accepts events time) node a b
     stops_put node a b stops v is told = leaves_wider accepts v.start (IsPutSome accepts events v) (IsOnTheWay accepts events time v) a b (λ w some. inl some) (stops v is told)
-
-    pub stops_made : (node next : Option (NodeView K)) (counts : PutCounts) (a b c : FileView) → PutsAll accepts events node next counts → is_some b.reads ≡ is_some a.reads
-        → StopsLeaveOf accepts (IsPutSome accepts events) node a b → StopsLeaveOf accepts (IsMadeSome accepts time) next b c → StopsLeaveOf accepts (IsOnTheWay accepts events time) node a c
-    stops_made node next counts a b c all shown first then v is told =
-        let u = (puts accepts v events).0 in
-        let later = subst (λ (s : Start K). StopsLeave accepts s (IsMadeSome accepts time u) b c) (puts_start v events) (then u (all v is).0 (told_still a.reads b.reads shown told)) in
-        leaves_on accepts v.start (IsOnTheWay accepts events time v) a b c (stops_put node a b first v is told)
-        (leaves_wider accepts v.start (IsMadeSome accepts time u) (IsOnTheWay accepts events time v) b c (way_made v) later)
-
-    way_settled : (v m w : NodeView K) (told : Option Making) → MakesAt accepts (puts accepts v events).0 time told m → IsSettledSome m w → IsOnTheWay accepts events time v w
-    way_settled v m w told makes some = inr (m, told, makes, some)
-
-    pub stops_settled : (node next last : Option (NodeView K)) (counts : PutCounts) (told : Option Making) (a b c d : FileView) → PutsAll accepts events node next counts → MakesOf accepts time next last told
-        → is_some c.reads ≡ is_some a.reads → StopsLeaveOf accepts (IsOnTheWay accepts events time) node a c → StopsLeaveOf accepts IsSettledSome last c d
-        → StopsLeaveOf accepts (IsOnTheWay accepts events time) node a d
-    stops_settled node next last counts told a b c d all makes shown first then v is tells =
-        let u = (puts accepts v events).0 in
-        let made = makes u (all v is).0 in
-        let m = made.0 in
-        let start : m.start ≡ v.start = makes_start u m time told made.2 ∙ puts_start v events in
-        let later = subst (λ (s : Start K). StopsLeave accepts s (IsSettledSome m) c d) start (then m made.1 (told_still a.reads c.reads shown tells)) in
-        leaves_on accepts v.start (IsOnTheWay accepts events time v) a c d (first v is tells)
-        (leaves_wider accepts v.start (IsSettledSome m) (IsOnTheWay accepts events time v) c d (λ w some. way_settled v m w told made.2 some) later)
 
     -- the block of a settled node
     shown_block : (members : MemberList) (x : ℕ) (m w : NodeView K) → m.start.members ≡ stakes_of members → m.start.coin ≡ members.coin → IsSettled m w
@@ -271,9 +244,6 @@ module _ {K : Type 0} (accepts : K → Accepts) where
 
     pub there_makes : (node next : Option (NodeView K)) (told : Option Making) → IsSome node → MakesOf accepts time node next told → IsSome next
     there_makes node next told there makes = let v = some_value node there in subst (λ (o : Option (NodeView K)). IsSome o) (sym (makes v.0 v.1).1) refl
-
-    pub there_settles : (node next : Option (NodeView K)) → IsSome node → SettlesOf accepts node next → IsSome next
-    there_settles node next there done = let v = some_value node there in subst (λ (o : Option (NodeView K)). IsSome o) (sym (done v.0 v.1).0) refl
 
     -- and it is one that was made with these members
     pub made_still : (members : MemberList) (node next last final : Option (NodeView K)) (counts : PutCounts) (told : Option Making) (w : NodeView K) → IsSome node → PutsAll accepts events node next counts

@@ -1,5 +1,5 @@
 -- What a stop leaves of a journal while work is done on its node
-use Rattle.std.specs.Prelude.{◌≡◌, ◌⊎◌, ℕ, List, Option, Some, None, Result, IsErrOf, IsSome}
+use Rattle.std.specs.Prelude.{◌≡◌, ◌⊎◌, ℕ, ◌≤◌, List, Option, Some, None, Result, IsErrOf, IsSome}
 use Rattle.std.specs.Option.{ForSome}
 use Rattle.hg_io.specs.FileView.{FileView, IsSynced, Leaves, Stays}
 use Rattle.hg_life.specs.Members.{MemberList}
@@ -7,6 +7,7 @@ use Rattle.hg_life.specs.NodeView.{NodeView, Start}
 use Rattle.hg_life.specs.Signing.{Accepts}
 use Rattle.hg_journal.specs.Journal.{journal}
 use Rattle.hg_journal.specs.Opening.{SyncsFirst}
+use Rattle.hg_journal.specs.Stored.{StoredView, StoresWritten}
 use Rattle.hg_journal.specs.Writing.{LeavesOnly}
 use Rattle.hg_journal.specs.declared.errors.OpenError.{OpenError}
 use Rattle.hg_journal.specs.declared.errors.OpenError.TheVariants.{Disk, Memory, Foreign, Broken}
@@ -25,6 +26,29 @@ pub record StopsLeave {K : Type 0} (accepts : K → Accepts) (start : Start K) (
 -- so it is of the node that was there, where the disk tells the file
 abbrev pub StopsLeaveOf : {K : Type 0} → (K → Accepts) → (NodeView K → NodeView K → Type 0) → Option (NodeView K) → FileView → FileView → Type 0
 StopsLeaveOf accepts comes node old new = ForSome node (λ v. IsSome old.reads → StopsLeave accepts v.start (comes v) old new)
+
+-- the node that is there came so of the one that was, and began as it did
+abbrev pub CameOf : {K : Type 0} → (NodeView K → NodeView K → Type 0) → Option (NodeView K) → Option (NodeView K) → Type 0
+CameOf {K} Comes first node = ForSome first (λ v. (w : NodeView K) × (node ≡ Some w) × (w.start ≡ v.start) × Comes v w)
+
+-- work that began at the file `old` with a node, and is in part staged: the node that is written came so of it, and the one that is
+-- there; the file is now the journal of the one that is written; and a stop since leaves that of one that came so
+pub record IsUnderWay {K : Type 0} (accepts : K → Accepts) (Comes : NodeView K → NodeView K → Type 0) (first : Option (NodeView K)) (old new : FileView) (stored : StoredView K) : Type 0 where
+  pub stores : StoresWritten accepts new stored
+  pub written : CameOf Comes first stored.written
+  pub node : CameOf Comes first stored.node
+  pub stops : StopsLeaveOf accepts Comes first old new
+
+-- a step of such work, after which the file is this: the node that is written is the one that was, or the one that was there
+pub record MovesOn {K : Type 0} (accepts : K → Accepts) (new : FileView) (was is : StoredView K) : Type 0 where
+  pub stores : StoresWritten accepts new is
+  pub written : (is.written ≡ was.written) ⊎ (is.written ≡ was.node)
+
+-- room was made for a change more
+pub record MadeRoom {K : Type 0} (accepts : K → Accepts) (new : FileView) (was is : StoredView K) : Type 0 where
+  pub moves : MovesOn accepts new was is
+  pub node : is.node ≡ was.node
+  pub room : is.pending ≤ 64000
 
 -- ---- from the opening on
 

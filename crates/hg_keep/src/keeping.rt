@@ -7,9 +7,9 @@ ghost use Rattle.hg_keep.specs.Stores.{open_error_of};
 ghost use Rattle.hg_keep.specs.Tasks.{DoesTask, FileIsRefused, IsDone, IsOnWayOf, SyncsTask, start_for};
 
 use crate::kept::KeepReport;
-use crate::making::make_at;
-use crate::putting::put_all;
-use crate::settling::settle;
+use crate::making::stage_at;
+use crate::settling::stage_all_marks;
+use crate::staging::stage_events;
 use hg_io::Disk;
 use hg_journal::{OpenError, StoreError, Stored};
 use hg_life::Members;
@@ -52,9 +52,10 @@ fn work<V: Signer + Drop, D: Disk>(
     ensures counts { (other : List ℕ) → D.faults disk.old other ≤ D.faults disk.new other }
 {
     let opened = stored.node().unwrap().rows() as u64;
-    let counts = put_all(alloc, stored, disk, task.events)?;
-    let made = make_at(alloc, stored, disk, task.time)?;
-    settle(stored, disk)?;
+    let counts = stage_events(alloc, stored, disk, task.events)?;
+    let made = stage_at(alloc, stored, disk, task.time)?;
+    stage_all_marks(stored, disk)?;
+    stored.commit(disk)?;
     let outcome = block_of(alloc, members, stored.node().unwrap())?;
     Ok(KeepReport {
         opened,
@@ -75,8 +76,8 @@ pub fn open_error_of(error: StoreError) -> OpenError
 }
 
 /// Opens the node of a member from its journal, which is made anew where there is none, puts events to it, makes the event that
-/// comes next, if a time is given for it, publishes all that the node's graph decides, and answers what came of each. A part of
-/// the events, the event that is made, and the marks each stand in the journal before the next is begun.
+/// comes next, if a time is given for it, publishes all that the node's graph decides, and answers what came of each. All of it
+/// is stored in parts, one after the other, and stands in the journal when this answers.
 pub fn keep<V: Signer + Drop, D: Disk>(
     alloc: Global,
     disk: &mut D,

@@ -1,6 +1,6 @@
 //! The work of the command `keep`: a node is opened from its journal, events of a file are put to it, it makes one if it is to,
-//! and publishes all that its graph decides. Each of these stands in the journal before the next is begun: a part of the events,
-//! which are stored at once, the event that is made, and the marks.
+//! and publishes all that its graph decides. These are stored in parts, by two syncs each: the events, the event that is made and
+//! the marks, one behind the other; a stop leaves a part whole or not at all.
 //! The layer above uses `read_events`, `keep`, which answers what came of it, and `write_kept`, which prints that; for a node
 //! that stays open it uses the parts of `keep`: `put_all`, `make_next` and `settle`.
 //!
@@ -21,6 +21,7 @@ mod making;
 mod printing;
 mod putting;
 mod settling;
+mod staging;
 
 pub use events::{EventFault, read_events};
 pub use keeping::{Task, keep, open_error_of};

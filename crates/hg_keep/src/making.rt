@@ -3,11 +3,13 @@ ghost use Rattle.std.specs.Option.{option_to_list};
 ghost use Rattle.hex.specs.Hex.{encode_lower};
 ghost use Rattle.hg_model.specs.Links.{most_others};
 ghost use Rattle.hg_journal.specs.Faults.{IsFaultCounted, DiskFrame};
-ghost use Rattle.hg_journal.specs.Stored.{StoresNode};
+ghost use Rattle.hg_journal.specs.Staging.{StopsKeepStaged};
+ghost use Rattle.hg_journal.specs.Stored.{StoresNode, StoresWritten};
 ghost use Rattle.hg_keep.specs.Keeping.{HasRow, IsMadeSome, MakesOf, TurnOf, told_of};
-ghost use Rattle.hg_keep.specs.Stops.{StopsLeaveOf};
+ghost use Rattle.hg_keep.specs.Stops.{MovesOn, StopsLeaveOf};
 
 use crate::kept::Making;
+use crate::staging::{make_room, stage_next};
 use hg_io::Disk;
 use hg_journal::{StoreError, Stored};
 use hg_life::MakeAnswer;
@@ -78,7 +80,7 @@ pub fn make_next<V: Signer + Drop, D: Disk>(
 }
 
 /// The one name, if there is one.
-fn names_of(name: &Option<Name>) -> &[Name]
+pub(crate) fn names_of(name: &Option<Name>) -> &[Name]
     ensures names { result.now ≡ option_to_list name.now }
     ensures few { length result.now ≤ most_others }
 {
@@ -88,8 +90,8 @@ fn names_of(name: &Option<Name>) -> &[Name]
     }
 }
 
-/// Makes the event that comes next, if a time is given for it, and answers what is told of it.
-pub(crate) fn make_at<V: Signer + Drop, D: Disk>(
+/// Makes the event that comes next, if a time is given for it, stages it, and answers what is told of it.
+pub(crate) fn stage_at<V: Signer + Drop, D: Disk>(
     alloc: Global,
     stored: &mut Stored<V>,
     disk: &mut D,
@@ -97,10 +99,10 @@ pub(crate) fn make_at<V: Signer + Drop, D: Disk>(
 ) -> Result<Option<Making>, StoreError>
     requires there { IsSome stored.old.node }
     requires started { D.At disk.old stored.old.name }
-    requires stored { StoresNode V.accepts (D.file disk.old) stored.old }
+    requires written { StoresWritten V.accepts (D.file disk.old) stored.old }
     ensures makes { IfOk result (MakesOf V.accepts time stored.old.node stored.new.node) }
-    ensures stored { OnOk result (StoresNode V.accepts (D.file disk.new) stored.new) }
-    ensures stops { StopsLeaveOf V.accepts (IsMadeSome V.accepts time) stored.old.node (D.file disk.old) (D.file disk.new) }
+    ensures moves { OnOk result (MovesOn V.accepts (D.file disk.new) stored.old stored.new) }
+    ensures stops { StopsKeepStaged V.accepts (D.file disk.old) (D.file disk.new) stored.old }
     ensures name { stored.new.name ≡ stored.old.name }
     ensures frame { DiskFrame D.Disk stored.new.name disk.old disk.new }
     ensures cause { IsFaultCounted result StoreError.Disk (D.faults disk.old) (D.faults disk.new) stored.old.name }
@@ -109,7 +111,8 @@ pub(crate) fn make_at<V: Signer + Drop, D: Disk>(
     let Some(time) = time else {
         return Ok(None);
     };
-    let answer = make_next(stored, disk, time)?;
+    make_room(stored, disk)?;
+    let answer = stage_next(stored, time)?;
     let told = told(alloc, stored.node().unwrap(), answer)?;
     Ok(Some(told))
 }

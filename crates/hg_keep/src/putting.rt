@@ -27,7 +27,7 @@ impl PutCounts {
     }
 
     /// Counts all these answers.
-    fn count_all(&mut self, answers: &[PutAnswer])
+    pub(crate) fn count_all(&mut self, answers: &[PutAnswer])
         requires { self.old.accepted + (self.old.known + self.old.refused) + length answers.now < 2 ^ 63 }
         ensures counted { self.new ≡ fold counted self.old answers.now }
         ensures more { self.new.accepted + (self.new.known + self.new.refused)
@@ -40,7 +40,7 @@ impl PutCounts {
 }
 
 /// Memory for so many answers.
-fn room_for_answers(alloc: Global, count: usize) -> Result<Vec<PutAnswer>, Memory>
+pub(crate) fn room_for_answers(alloc: Global, count: usize) -> Result<Vec<PutAnswer>, Memory>
     ensures { IfOk result (λ answers. count ≤ vec_capacity answers) }
 {
     Ok(Vec::with_capacity(alloc, count)?)

@@ -1,9 +1,11 @@
 ghost use Rattle.std.specs.Prelude.{◌≡◌, ◌≤◌, ℕ, List, None, IsErrOf, IsSome, OnOk, is_some};
 ghost use Rattle.hg_journal.specs.Faults.{IsFaultCounted, DiskFrame};
-ghost use Rattle.hg_journal.specs.Stored.{StoresNode};
+ghost use Rattle.hg_journal.specs.Staging.{StopsKeepStaged};
+ghost use Rattle.hg_journal.specs.Stored.{StoresNode, StoresWritten};
 ghost use Rattle.hg_keep.specs.Keeping.{IsSettledSome, SettlesOf};
-ghost use Rattle.hg_keep.specs.Stops.{StopsLeaveOf};
+ghost use Rattle.hg_keep.specs.Stops.{MovesOn, StopsLeaveOf};
 
+use crate::staging::{make_room, stage_settled};
 use hg_io::Disk;
 use hg_journal::{StoreError, Stored};
 use hg_model::Share;
@@ -35,4 +37,24 @@ pub fn settle<V: Signer + Drop, D: Disk>(
     let rows = node.rows();
     stored.remark(disk, rows, Share::new(0, 1))?;
     Ok(())
+}
+
+/// Publishes all that the node's graph decides, and stages it.
+pub(crate) fn stage_all_marks<V: Signer + Drop, D: Disk>(
+    stored: &mut Stored<V>,
+    disk: &mut D,
+) -> Result<(), StoreError>
+    requires there { IsSome stored.old.node }
+    requires started { D.At disk.old stored.old.name }
+    requires written { StoresWritten V.accepts (D.file disk.old) stored.old }
+    ensures settles { OnOk result (SettlesOf V.accepts stored.old.node stored.new.node) }
+    ensures moves { OnOk result (MovesOn V.accepts (D.file disk.new) stored.old stored.new) }
+    ensures stops { StopsKeepStaged V.accepts (D.file disk.old) (D.file disk.new) stored.old }
+    ensures name { stored.new.name ≡ stored.old.name }
+    ensures frame { DiskFrame D.Disk stored.new.name disk.old disk.new }
+    ensures cause { IsFaultCounted result StoreError.Disk (D.faults disk.old) (D.faults disk.new) stored.old.name }
+    ensures never { IsErrOf result StoreError.Closed → ⊥ }
+{
+    make_room(stored, disk)?;
+    stage_settled(stored)
 }
