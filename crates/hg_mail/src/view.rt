@@ -29,7 +29,7 @@ pub struct Finding {
 }
 
 /// What a port knows of the two counts, of all messages that were ever put in, and of those that are noted as taken out; and
-/// what it notes of its own calls.
+/// what it notes of its own calls. Of `collects`, `dates` and `findings` the rule of the counts speaks; of `full` only the steps do.
 pub struct CountView {
     /// For how many messages the mailbox has room.
     pub room: u64,
