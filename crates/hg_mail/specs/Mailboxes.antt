@@ -1,5 +1,5 @@
 -- A mailbox and its ports as callers see them, and what the calls promise
-use Rattle.std.specs.Prelude.{◌≡◌, ℕ, ◌+◌, ◌≤◌, List, Option, length}
+use Rattle.std.specs.Prelude.{◌≡◌, ℕ, ◌+◌, ◌%◌, ◌^◌, ◌<◌, ◌≤◌, List, [], ◌∷◌, ◌++◌, Option, length}
 use Rattle.atomic_table.specs.Seated.{TableId}
 use Rattle.atomic_table.specs.declared.shared.Seat.{Seat}
 use Rattle.crossbeam_queue.specs.declared.array_queue.Doing.{Doing}
@@ -9,6 +9,7 @@ use Rattle.hg_mail.specs.declared.message.Message.{Message}
 use Rattle.hg_mail.specs.declared.posting.PostAnswer.{PostAnswer}
 use Rattle.hg_mail.specs.declared.posting.PostAnswer.TheVariants.{Posted, Full}
 use Rattle.hg_mail.specs.declared.view.View.{View}
+use Rattle.hg_mail.specs.declared.view.Finding.{Finding}
 use Rattle.hg_mail.specs.declared.view.CountView.{CountView}
 use Rattle.hg_mail.specs.Messages as mail
 use Rattle.hg_mail.specs.Messages.{Puts, first_view, joined_view, spent_view}
@@ -73,23 +74,30 @@ after_looking p found = record p { count = seeing p.count found }
 abbrev pub after_taking : PortView → List Message → PortView
 after_taking p taken = record p { view = mail.after_taking p.view taken }
 
--- .. by a call that collects: the port notes them, and they are all that were counted when it began, and not noted before, or as
--- many as there is room for, which it counts
-pub record Collects (p : PortView) (taken : List Message) (q : PortView) : Type 0 where
-  pub queue : q.queue ≡ p.queue
-  pub table : q.table ≡ p.table
-  pub room : q.count.room ≡ p.count.room
-  pub view : q.view ≡ mail.after_taking p.view taken
+-- by one call that collects these were taken out, and noted: at most as many as there is room for; and fewer only where all that
+-- had been counted, as the call found at its step on that count, which wraps, is out
+pub record Collects (room : ℕ) (p : PortView) (taken : List Message) (q : PortView) : Type 0 where
+  pub finding : Finding
+  pub next : p.count.collects ≤ finding.number
+  pub most : length taken ≤ room
+  pub fewer : length taken < room → finding.counted % 2 ^ 64 ≤ length q.view.taken
+  pub findings : q.count.findings ≡ p.count.findings ++ finding ∷ []
   pub collects : q.count.collects ≡ p.count.collects + 1
   pub out : q.count.out ≡ p.count.out + length taken
+  pub view : q.view ≡ mail.after_taking p.view taken
+  -- nothing else is new to the port
+  pub queue : q.queue ≡ p.queue
+  pub table : q.table ≡ p.table
+  pub room_is : q.count.room ≡ p.count.room
   pub parts : q.count.parts ≡ p.count.parts
   pub mine : q.count.mine ≡ p.count.mine
   pub full : q.count.full ≡ p.count.full
   pub seen : q.count.seen ≡ p.count.seen
+  pub dates : q.count.dates ≡ p.count.dates
 
 -- the same of a port's two tokens
-abbrev pub CollectsAt : Pass Message View → Seat (Option ℕ) CountView → List Message → Pass Message View → Seat (Option ℕ) CountView → Type 0
-CollectsAt pass seat taken pass_after seat_after = Collects (port_of pass seat) taken (port_of pass_after seat_after)
+abbrev pub CollectsAt : ℕ → Pass Message View → Seat (Option ℕ) CountView → List Message → Pass Message View → Seat (Option ℕ) CountView → Type 0
+CollectsAt room pass seat taken pass_after seat_after = Collects room (port_of pass seat) taken (port_of pass_after seat_after)
 
 -- a message was put in, and counted
 pub record IsPosted (p : PortView) (message : Message) (q : PortView) : Type 0 where
@@ -99,6 +107,9 @@ pub record IsPosted (p : PortView) (message : Message) (q : PortView) : Type 0 w
   pub full : q.count.full ≡ p.count.full
   pub collects : q.count.collects ≡ p.count.collects
   pub seen : p.count.seen ≤ q.count.seen
+  pub date : ℕ
+  pub dates : q.count.dates ≡ p.count.dates ++ date ∷ []
+  pub findings : q.count.findings ≡ p.count.findings
 
 -- a message came back: so many were counted, and not noted as taken out, as there is room for, which the port counts
 pub record IsFull (room : ℕ) (p : PortView) (message : Message) (back : Message) (q : PortView) : Type 0 where
@@ -111,6 +122,8 @@ pub record IsFull (room : ℕ) (p : PortView) (message : Message) (back : Messag
   pub mine : q.count.mine ≡ p.count.mine
   pub collects : q.count.collects ≡ p.count.collects
   pub seen : p.count.seen ≤ q.count.seen
+  pub dates : q.count.dates ≡ p.count.dates
+  pub findings : q.count.findings ≡ p.count.findings
 
 abbrev pub Answers : ℕ → PortView → Message → PostAnswer → PortView → Type 0
 Answers room p message Posted q = IsPosted p message q

@@ -1,10 +1,11 @@
 //! Mailboxes between threads: bounded queues of events, each with many senders and one receiver, and two counts beside it, of
 //! all messages that were ever put in, and of those that are noted as taken out. What a thread may do, and what it knows, lies in
 //! its `Port`.
-//! The layers above use `post`, whose answer `Full` says that, at a step of the call, so many were counted and not noted as taken
-//! out as there is room for; `collect`, which takes out all that were counted when it began and not noted as taken out, or as many
-//! as there is room for; the port counts both, so what it has counted in the end speaks of each call. Once the ports have been
-//! taken back, `count` and `drain`: each sender's messages are what of them was taken out, and then what was left.
+//! The layers above use `post`, where the port counts the messages that come back; `collect`, which finds how many are counted, and
+//! takes out until all these are out, or as many as there is room for. Each counted message has a date, which is how many collects
+//! there had been, and the rule of the counts says of each collect that it found all that was dated before it. Once the ports have
+//! been taken back, `count` and `drain`: the dates tell what each collect found, and each sender's messages are what of them was
+//! taken out, and then what was left.
 //!
 //! From `send_piece` and `receive` of `hg_storm`:
 //!

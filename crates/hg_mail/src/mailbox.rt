@@ -1,6 +1,6 @@
 ghost use Rattle.std.specs.Prelude.{◌≡◌, ◌<◌, ◌≤◌, ◌%◌, ◌^◌, true, IfOk, OnErr, OnOk, length, max};
 ghost use Rattle.hg_mail.specs.Messages.{HasPort, IsEmptied, IsWhole, KnowsSenders};
-ghost use Rattle.hg_mail.specs.Count.{all_parts};
+ghost use Rattle.hg_mail.specs.Count.{AreFoundBy, all_parts};
 ghost use Rattle.hg_mail.specs.Mailboxes.{Collects, IsPortOf, IsOpened, Posts, TakesSome, after_hand, after_issue, after_looking, after_taking, handed, issued, joined, spent};
 
 use crate::collecting::{collect_by, drain_by};
@@ -49,7 +49,8 @@ impl Mailbox {
             Port {
                 pass,
                 seat,
-                byte: 0,
+                takes: true,
+                out: 0,
             },
         ))
     }
@@ -77,7 +78,8 @@ impl Mailbox {
         Port {
             pass: other,
             seat: part,
-            byte: 0,
+            takes: false,
+            out: 0,
         }
     }
 
@@ -93,10 +95,12 @@ impl Mailbox {
         let other = self.queue.another::<ToReceiver>(pass);
         let seat = &mut port.seat;
         let part = self.counter.shared.split_seat::<OnePart>(seat);
+        port.takes = false;
         Port {
             pass: other,
             seat: part,
-            byte: 0,
+            takes: true,
+            out: port.out,
         }
     }
 
@@ -109,12 +113,17 @@ impl Mailbox {
         let Port {
             pass: its_pass,
             seat: its_seat,
-            byte: _,
+            takes,
+            out,
         } = other;
         let pass = &mut port.pass;
         self.queue.absorb::<Both>(pass, its_pass);
         let seat = &mut port.seat;
         self.counter.shared.join_seat::<Both>(seat, its_seat);
+        if takes {
+            port.takes = true;
+            port.out = out;
+        }
     }
 
     /// Takes all that another port has, which keeps no right and no part.
@@ -138,20 +147,24 @@ impl Mailbox {
         let other = self.queue.another::<Everything>(pass);
         let seat = &mut port.seat;
         let parts = self.counter.shared.split_seat::<Everything>(seat);
+        let takes = port.takes;
+        port.takes = false;
         Port {
             pass: other,
             seat: parts,
-            byte: 0,
+            takes,
+            out: port.out,
         }
     }
 
     /// How many messages were put in and counted so far, those that were taken out included. By a port that has all parts
-    /// it is what that port has counted.
+    /// it is what that port has counted, and the dates of these tell what each of its collects found.
     pub fn count(&self, port: &mut Port) -> u64
         requires { IsPortOf self.now port.old }
         ensures port { port.new ≡ after_looking port.old result }
         ensures whole { port.old.count.parts ≡ all_parts → port.new.count.seen ≤ port.old.count.mine }
         ensures exact { port.old.count.parts ≡ all_parts → result ≡ port.old.count.mine % 2 ^ 64 }
+        ensures found { port.old.count.parts ≡ all_parts → AreFoundBy port.old.count.dates port.old.count.findings }
     {
         let seat = &mut port.seat;
         look(&self.counter.shared, seat)
@@ -170,8 +183,9 @@ impl Mailbox {
         post_by(rt, &self.queue, &self.counter.shared, pass, seat, message)
     }
 
-    /// Takes out, oldest first, all messages that are counted when it begins, and not noted as taken out, or as many as there is
-    /// room for, and notes them; the port counts that it did. Without memory none.
+    /// Takes out messages, oldest first, until all are out that were counted when this call noted on that count that it collects,
+    /// or as many as there is room for; and notes them. The port notes what it found. It may wait until a message is there that
+    /// was counted. Without memory none is taken out.
     pub fn collect<R: Wait>(
         &self,
         rt: &R,
@@ -180,13 +194,21 @@ impl Mailbox {
     ) -> Result<Vec<Message>, Memory>
         requires of { IsPortOf self.now port.old }
         requires takes { port.old.view.takes ≡ true }
-        ensures collects { IfOk result (λ taken. Collects port.old taken.items port.new) }
-        ensures most { IfOk result (λ taken. length taken.items ≤ self.now.room) }
+        ensures collects { IfOk result (λ taken. Collects self.now.room port.old taken.items port.new) }
         ensures err { OnErr result (port.new ≡ port.old) }
     {
         let pass = &mut port.pass;
         let seat = &mut port.seat;
-        collect_by(rt, alloc, &self.queue, &self.counter.shared, pass, seat)
+        let out = &mut port.out;
+        collect_by(
+            rt,
+            alloc,
+            &self.queue,
+            &self.counter.shared,
+            pass,
+            seat,
+            out,
+        )
     }
 
     /// Takes out what is left, until the mailbox holds none: then all is out that was put in by the senders whose ports this one
@@ -201,12 +223,13 @@ impl Mailbox {
         requires of { IsPortOf self.now port.old }
         requires takes { port.old.view.takes ≡ true }
         ensures port { IfOk result (λ left. port.new ≡ after_taking port.old left.items) }
-        ensures whole { OnOk result (IsEmptied port.new.view) }
         ensures known { OnOk result (KnowsSenders port.new.view) }
+        ensures whole { OnOk result (IsEmptied port.new.view) }
         ensures room { IsWhole port.old.view → IfOk result (λ left. length left.items ≤ self.now.room) }
         ensures err { OnErr result (TakesSome port.old port.new) }
     {
         let pass = &mut port.pass;
-        drain_by(rt, alloc, &self.queue, pass)
+        let out = &mut port.out;
+        drain_by(rt, alloc, &self.queue, pass, out)
     }
 }

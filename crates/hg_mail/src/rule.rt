@@ -1,7 +1,7 @@
 // The rules of a mailbox's two halves, and what each kind of step tells its port.
 ghost use Rattle.hg_mail.specs.Messages.{Puts, Takes, after_issue, after_hand, first_view, issued, handed, joined_view, spent_view};
 ghost use Rattle.hg_mail.specs.Rule.{Delivers, IsAt};
-ghost use Rattle.hg_mail.specs.Count.{Counts, after_part, begun, came_back, collected, first_count, joined_count, looked, one_part, raised, spent_count, weighed};
+ghost use Rattle.hg_mail.specs.Count.{Counts, after_part, begun, came_back, first_count, joined_count, looked, noted, one_part, raised, spent_count};
 
 use crate::message::Message;
 use crate::view::{CountView, View};
@@ -25,7 +25,8 @@ pub type Queue = RuledArrayQueue<Message, View, Delivery>;
 /// A port's token of the queue.
 pub type MailPass = Pass<Message, View>;
 
-/// The counts are what all ports have counted, and what they have noted as taken out.
+/// The counts are what all ports have counted, and what they have noted as taken out; each collect found all that was counted
+/// before it.
 pub struct Counting;
 
 impl TableRule<Option<u8>, CountView, usize> for Counting {
@@ -79,13 +80,6 @@ impl Play<Option<u8>, CountView> for Look {
     ghost then = { looked };
 }
 
-/// How many are noted as taken out is read.
-pub struct Weigh;
-
-impl Play<Option<u8>, CountView> for Weigh {
-    ghost then = { weighed };
-}
-
 /// A message came back.
 pub struct Back;
 
@@ -93,7 +87,7 @@ impl Play<Option<u8>, CountView> for Back {
     ghost then = { came_back };
 }
 
-/// A port begins to collect.
+/// A port collects.
 pub struct Begin;
 
 impl Play<Option<u8>, CountView> for Begin {
@@ -101,10 +95,10 @@ impl Play<Option<u8>, CountView> for Begin {
 }
 
 /// A port notes what it has taken out.
-pub struct Collect;
+pub struct Note;
 
-impl Play<Option<u8>, CountView> for Collect {
-    ghost then = { collected };
+impl Play<Option<u8>, CountView> for Note {
+    ghost then = { noted };
 }
 
 /// The right of the next sender is given away.

@@ -21,8 +21,15 @@ pub struct View {
     pub senders: LinkedList<Sender>,
 }
 
+/// What a collect found: it came after so many other collects of its mailbox, and at its step so many messages were counted
+/// in all.
+pub struct Finding {
+    pub number: u64,
+    pub counted: u64,
+}
+
 /// What a port knows of the two counts, of all messages that were ever put in, and of those that are noted as taken out; and
-/// what it notes of its own calls.
+/// what it notes of its own calls. Of `collects`, `dates` and `findings` the rule of the counts speaks; of `full` only the steps do.
 pub struct CountView {
     /// For how many messages the mailbox has room.
     pub room: u64,
@@ -34,15 +41,14 @@ pub struct CountView {
     pub out: u64,
     /// How often a message came back to it while so many were counted, and not noted as taken out, as there is room for.
     pub full: u64,
-    /// How often it collected, and took out all that were counted then, and not noted as taken out, or as many as there is
-    /// room for.
+    /// How often it collected.
     pub collects: u64,
     /// So many were counted in all, at least.
     pub seen: u64,
     /// How many were counted when it looked last.
     pub counted: u64,
-    /// How many were noted as taken out when it looked last.
-    pub gone: u64,
-    /// How many were counted, and not noted as taken out, when it began to collect; while it does.
-    pub waiting: Option<u64>,
+    /// For each message that it has counted, how many collects there had been by then, those of all ports together.
+    pub dates: LinkedList<u64>,
+    /// What each of its collects found, the first one's first.
+    pub findings: LinkedList<Finding>,
 }

@@ -3,10 +3,11 @@ use Rattle.std.proofs.Common.{◌≡◌, ◌≢◌, ⊎_elim, inl, inr, ℕ, zer
 use mathlib.Core.Logic.{dite}
 use native.Mathlib.Decide.{ℕ_discrete}
 use Rattle.std.proofs.lemmas.Bool.{le-leb, lt-leb, cases_lt}
-use Rattle.std.proofs.lemmas.List.{get_or-set_other, get_or-set_same, get_or_default, length-drop, length-set, length-take-le}
+use Rattle.std.proofs.lemmas.List.{get_or-set_other, get_or-set_same, append-nil, get_or_default, length-drop, length-set, length-take-le}
 use Rattle.hg_mail.specs.declared.message.Message.{Message}
 use Rattle.hg_mail.specs.declared.view.Sender.{Sender}
 use Rattle.hg_mail.specs.declared.view.View.{View}
+use Rattle.hg_mail.specs.declared.view.Finding.{Finding}
 use Rattle.hg_mail.specs.Count.{joined_count}
 use Rattle.hg_mail.specs.Messages.{joined_view, receiver_view, sender, sender_view}
 use Rattle.hg_mail.specs.Mailboxes.{IsPortOf, MailboxView, PortView, joined}
@@ -16,7 +17,7 @@ use Rattle.hg_storm.specs.declared.plan.Plan.{Plan}
 use Rattle.hg_storm.specs.declared.sending.Dispatch.{Dispatch}
 use Rattle.hg_storm.specs.declared.desk.Job.{Job}
 use Rattle.hg_storm.specs.Keeping.{Secrets}
-use Rattle.hg_storm.specs.Receiving.{HasCollectedAlone}
+use Rattle.hg_storm.specs.Receiving.{HasCollectedAlone, TookAllDue}
 use Rattle.hg_storm.specs.Sending.{bytes_seen, messages_from}
 use Rattle.hg_storm.specs.Turning.{HasServed}
 use Rattle.hg_storm.specs.Threads.{AreOpened, away, no_dispatch}
@@ -104,6 +105,7 @@ record Brings (me : ℕ) (put : List Message) (often : ℕ) (m : MailboxView) (q
   pub full : 0 < often → m.room ≤ q.count.seen
   pub back : q.count.full ≡ often
   pub none : q.count.collects ≡ 0
+  pub finds : q.count.findings ≡ []
 
 has_left : (s : Sender) (xs ys : List Sender) → HasSender s xs → HasSender s (xs ++ ys)
 has_left s [] ys has = absurd has
@@ -133,6 +135,9 @@ module _ (tale : Tale) (n i k : ℕ) (m : MailboxView) (a b : PortView) (was : I
       (λ e. let here : 0 < tale.full i k = subst (λ (z : ℕ). 0 < tale.full z k) e some in omega (arith, part.full here, second))
       (λ ne. omega (arith, was.full j (omega (arith, below, ne)) some, first))
 
+  same_finds : (joined_count a.count b.count).findings ≡ a.count.findings
+  same_finds = ap (λ (fs : List Finding). a.count.findings ++ fs) part.finds ∙ append-nil a.count.findings
+
   -- the mailbox of another member
   back_other : (c : PortView) → k ≢ i → c ≡ joined a b → IsBack tale n (i + 1) k m c
   back_other c ne is =
@@ -153,14 +158,19 @@ module _ (tale : Tale) (n i k : ℕ) (m : MailboxView) (a b : PortView) (was : I
         full = full_next (joined_count a.count b.count).seen (omega arith) (omega arith);
         often = omega (arith, was.often, part.back, often_next tale i k);
         collects = omega (arith, was.collects, part.none, known);
+        finds = λ later. same_finds ∙ was.finds (omega (arith, later));
+        each = λ below. ap length same_finds ∙ was.each (omega (arith, below, ne));
+        took = λ below. subst (λ (fs : List Finding). TookAllDue m.room fs (length (tale.taken k))) (sym same_finds) (was.took (omega (arith, below, ne)));
       })
 
   -- the member's own, with its receiver's port
-  back_own : (inbox c : PortView) → k ≡ i → inbox.view ≡ receiver_view (tale.taken i) → HasCollectedAlone (tale.collects i) inbox.count → c ≡ joined (joined a b) inbox → IsBack tale n (i + 1) k m c
-  back_own inbox c same view count is =
+  back_own : (inbox c : PortView) → k ≡ i → inbox.view ≡ receiver_view (tale.taken i) → HasCollectedAlone (tale.collects i) inbox.count → TookAllDue m.room inbox.count.findings (length (tale.taken i)) → c ≡ joined (joined a b) inbox → IsBack tale n (i + 1) k m c
+  back_own inbox c same view count took is =
       let was_due : due_back (nat_le i k) ≡ 1 = ap due_back (le-leb i k (omega (arith, same))) in
       let now_due : due_back (nat_le (i + 1) k) ≡ 0 = ap due_back (lt-leb (i + 1) k (omega (arith, same))) in
       let v : View = joined_view a.view b.view in
+      let own_finds : (joined_count (joined_count a.count b.count) inbox.count).findings ≡ inbox.count.findings =
+      ap (λ (fs : List Finding). fs ++ inbox.count.findings) (same_finds ∙ was.finds (omega (arith, same))) in
       let box_collects : inbox.count.collects ≡ tale.collects k = count.collects ∙ ap tale.collects (sym same) in
       let unknown : known_back (nat_le i k) (tale.collects k) ≡ 0 = ap (λ (z : Bool). known_back z (tale.collects k)) (le-leb i k (omega (arith, same))) in
       let known : known_back (nat_le (i + 1) k) (tale.collects k) ≡ tale.collects k = ap (λ (z : Bool). known_back z (tale.collects k)) (lt-leb (i + 1) k (omega (arith, same))) in
@@ -176,19 +186,24 @@ module _ (tale : Tale) (n i k : ℕ) (m : MailboxView) (a b : PortView) (was : I
         full = full_next (joined_count (joined_count a.count b.count) inbox.count).seen (omega arith) (omega arith);
         often = omega (arith, was.often, part.back, count.full, often_next tale i k);
         collects = omega (arith, was.collects, part.none, box_collects, unknown, known);
+        finds = λ later. absurd (omega (arith, later, same));
+        each = λ below. ap length own_finds ∙ (count.each ∙ ap tale.collects (sym same));
+        took = λ below. subst (λ (fs : List Finding). TookAllDue m.room fs (length (tale.taken k))) (sym own_finds)
+            (subst (λ (z : ℕ). TookAllDue m.room inbox.count.findings (length (tale.taken z))) (sym same) took);
       })
 
 -- the ports of one member more are back
 back_one : (tale : Tale) (n i : ℕ) (mails : List MailboxView) (olds ports : List PortView) (inbox : PortView) (news : List PortView) → AreBack tale n i mails olds → AreGathered i mails olds ports inbox news →
     ((k : ℕ) (m : MailboxView) (q : PortView) → k < length mails → Brings i (tale.put i k) (tale.full i k) (get_or mails k m) (get_or ports k q)) →
-    inbox.view ≡ receiver_view (tale.taken i) → HasCollectedAlone (tale.collects i) inbox.count → AreBack tale n (i + 1) mails news
-back_one tale n i mails olds ports inbox news back g brings view count = record {
+    inbox.view ≡ receiver_view (tale.taken i) → HasCollectedAlone (tale.collects i) inbox.count → ((m : MailboxView) → TookAllDue (get_or mails i m).room inbox.count.findings (length (tale.taken i))) →
+    AreBack tale n (i + 1) mails news
+back_one tale n i mails olds ports inbox news back g brings view count took = record {
   count = g.of.count;
   each = λ k m q inside.
       let was = back.each k m q inside in
       let part = brings k m q inside in
       dite (ℕ_discrete k i)
-      (λ e. back_own tale n i k (get_or mails k m) (get_or olds k q) (get_or ports k q) was part inbox (get_or news k q) e view count
+      (λ e. back_own tale n i k (get_or mails k m) (get_or olds k q) (get_or ports k q) was part inbox (get_or news k q) e view count (subst (λ (z : ℕ). TookAllDue (get_or mails z m).room inbox.count.findings (length (tale.taken i))) (sym e) (took m))
       (subst (λ (z : ℕ). get_or news z q ≡ joined (joined (get_or olds z q) (get_or ports z q)) inbox) (sym e) (g.own q q q)))
       (λ ne. back_other tale n i k (get_or mails k m) (get_or olds k q) (get_or ports k q) was part (get_or news k q) ne (g.others k q q q inside ne));
 }
@@ -213,6 +228,9 @@ back_none tale mails masters opened = record {
         full = λ j none. absurd (omega arith);
         often = x.back;
         collects = x.collects ∙ sym unknown;
+        finds = λ _. x.finds;
+        each = λ none. absurd (omega arith);
+        took = λ none. absurd (omega arith);
       };
 }
 
@@ -230,6 +248,7 @@ served_brings plan own me place turns k rows m d q same s = record {
   full = s.full;
   back = s.back;
   none = s.sent.none;
+  finds = s.sent.finds;
 }
 
 module _ (plan : Plan) (mails : List MailboxView) (p : SharedNode Secrets) (i : ℕ) (j : Job) (turned : HasTurned plan mails p i j) where
@@ -247,7 +266,10 @@ module _ (plan : Plan) (mails : List MailboxView) (p : SharedNode Secrets) (i : 
   turned_view m = (turned.stands.inbox m).view
 
   turned_count : HasCollectedAlone j.desk.inbox.count.collects j.desk.inbox.count
-  turned_count = let alone = turned.stands.alone in record { parts = alone.parts; mine = alone.mine; full = alone.full; collects = refl }
+  turned_count = let alone = turned.stands.alone in record { parts = alone.parts; mine = alone.mine; full = alone.full; collects = refl; each = alone.each ∙ sym alone.collects }
+
+  turned_took : (m : MailboxView) → TookAllDue (get_or mails i m).room j.desk.inbox.count.findings (length j.desk.log.intake.taken.items)
+  turned_took m = subst (λ (z : ℕ). TookAllDue (get_or mails z m).room j.desk.inbox.count.findings (length j.desk.log.intake.taken.items)) turned.me (turned.stands.inbox m).took
 
 pub back_next : (mails : List MailboxView) (places : List (SharedNode Secrets)) (jobs : List Job) (i : ℕ) (j : Job) (olds news : List PortView) → HaveTurned mails places jobs → i < length jobs → j ≡ get_or jobs i j →
     AreGathered i mails olds j.desk.ports.items j.desk.inbox news → ((p : SharedNode Secrets) (d : Job) → AreBack (tale_of places jobs p d) (length mails) i mails olds) →
@@ -259,4 +281,4 @@ back_next mails places jobs i j olds news h inside j_is g back p d =
     let gathered : AreGathered i mails olds there.desk.ports.items there.desk.inbox news = subst (λ (x : Job). AreGathered i mails olds x.desk.ports.items x.desk.inbox news) is g in
     first_of _ mails (omega (arith, inside, h.jobs_count)) (λ m.
     back_one (tale_of places jobs p d) (length mails) i mails olds there.desk.ports.items there.desk.inbox news (back p d) gathered
-    (turned_brings h.plan mails (get_or places i p) i there t) (turned_view h.plan mails (get_or places i p) i there t m) (turned_count h.plan mails (get_or places i p) i there t))
+    (turned_brings h.plan mails (get_or places i p) i there t) (turned_view h.plan mails (get_or places i p) i there t m) (turned_count h.plan mails (get_or places i p) i there t) (turned_took h.plan mails (get_or places i p) i there t))

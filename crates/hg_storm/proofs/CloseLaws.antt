@@ -8,7 +8,7 @@ use Rattle.std.proofs.lemmas.List.Elements.{filter-append}
 use Rattle.hg_life.specs.Signing.{accepts_by}
 use Rattle.hg_mail.specs.declared.message.Message.{Message}
 use Rattle.hg_mail.specs.declared.view.Sender.{Sender}
-use Rattle.hg_mail.specs.Count.{all_parts}
+use Rattle.hg_mail.specs.Count.{AreFoundBy, all_parts}
 use Rattle.hg_mail.specs.Messages.{AreFrom, IsAmong, IsEmptied, IsWhole, KnowsSenders, after_taking, messages_of, sender}
 use Rattle.hg_mail.specs.Mailboxes as mailbox
 use Rattle.hg_mail.specs.Mailboxes.{MailboxView, PortView}
@@ -27,7 +27,7 @@ use Rattle.hg_storm.specs.Joins.{AreAbsorbed, AreBack, AreEmptied, AreGathered, 
 -- ---- all ports are back
 
 -- the port has all parts
-back_parts : (tale : Tale) (n k : ℕ) (m : MailboxView) (q : PortView) → k < n → IsBack tale n n k m q → q.count.parts ≡ all_parts
+pub back_parts : (tale : Tale) (n k : ℕ) (m : MailboxView) (q : PortView) → k < n → IsBack tale n n k m q → q.count.parts ≡ all_parts
 back_parts tale n k m q inside b =
     let none : due_back (nat_le n k) ≡ 0 = ap due_back (lt-leb n k inside) in
     omega (arith, b.parts, none)
@@ -44,17 +44,18 @@ absorbed_take_out mails places jobs masters lasts told places_count jobs_count o
 -- ---- what is left
 
 -- a port that counted and took out all
-pub empties : {Z E : Type 0} (m : MailboxView) (p q r : PortView) (counted : ℕ) (result : Result (Vec Message Z) E) → q ≡ mailbox.after_looking p counted → (p.count.parts ≡ all_parts → q.count.seen ≤ p.count.mine) → p.view.takes ≡ true →
+pub empties : {Z E : Type 0} (m : MailboxView) (p q r : PortView) (counted : ℕ) (result : Result (Vec Message Z) E) → q ≡ mailbox.after_looking p counted → (p.count.parts ≡ all_parts → q.count.seen ≤ p.count.mine) → (p.count.parts ≡ all_parts → AreFoundBy p.count.dates p.count.findings) →
     IfOk result (λ (left : Vec Message Z). r ≡ mailbox.after_taking q left.items) → OnOk result (KnowsSenders r.view) → OnOk result (IsEmptied r.view) → (IsWhole q.view → IfOk result (λ (left : Vec Message Z). length left.items ≤ m.room)) →
     IfOk result (λ (left : Vec Message Z). Empties m p left.items)
-empties m p q r counted (Err e) looked whole takes taken none all room = tt
-empties m p q r counted (Ok left) looked whole takes taken none all room =
+empties m p q r counted (Err e) looked whole found taken known all room = tt
+empties m p q r counted (Ok left) looked whole found taken known all room =
     let view : r.view ≡ after_taking p.view left.items = ap (λ (x : PortView). x.view) taken ∙ ap (λ (x : PortView). after_taking x.view left.items) looked in
     record {
       all = subst IsEmptied view all;
-      known = subst KnowsSenders view none;
+      known = subst KnowsSenders view known;
       whole = λ parts. let seen = whole parts in let is = ap (λ (x : PortView). x.count.seen) looked in omega (arith, seen, is);
       few = λ all_back. room (subst IsWhole (sym (ap (λ (x : PortView). x.view) looked)) all_back);
+      found = found;
     }
 
 -- .. and what it then knows
@@ -66,6 +67,8 @@ emptied_port p q r counted (Ok left) looked taken =
       taken = ap (λ (x : PortView). x.view.taken) is;
       back = ap (λ (x : PortView). x.count.full) is;
       collects = ap (λ (x : PortView). x.count.collects) is;
+      dates = ap (λ (x : PortView). x.count.dates) is;
+      finds = ap (λ (x : PortView). x.count.findings) is;
     }
 
 -- of one of the senders

@@ -29,7 +29,7 @@ use Rattle.hg_storm.specs.declared.desk.Job.{Job}
 use Rattle.hg_storm.specs.Drawing.{HasDrawn, first_state}
 use Rattle.hg_storm.specs.Fates.{HasFates}
 use Rattle.hg_storm.specs.Keeping.{Secrets, rows_made}
-use Rattle.hg_storm.specs.Receiving.{HasCollectedAlone, IsInbox}
+use Rattle.hg_storm.specs.Receiving.{HasCollectedAlone, IsInbox, TookAllDue}
 use Rattle.hg_storm.specs.Sending.{bytes_seen}
 use Rattle.hg_storm.specs.Turning.{HasServed, HasServedAll, Standing}
 use Rattle.hg_storm.specs.Threads.{AreIssued, AreIssuing, AreNewJobs, AreNewSenders, AreOpened, HaveRoom, IsFirstPort, IsNewDesk, IsNewJob, IsNewLog, IsNewReceiver, IsNewSender, MayRun, away, no_dispatch, opened_view}
@@ -46,6 +46,7 @@ opened_first room k m q opened =
       mine = ap (λ (c : CountView). c.mine) opened.count;
       back = ap (λ (c : CountView). c.full) opened.count;
       collects = ap (λ (c : CountView). c.collects) opened.count;
+      finds = ap (λ (c : CountView). c.findings) opened.count;
     }
 
 -- so many mailboxes are open
@@ -103,6 +104,7 @@ issued_first me k m q new few first is = subst (IsFirstPort (me + 1) me k m) (sy
   mine = first.mine;
   back = first.back;
   collects = first.collects;
+  finds = first.finds;
 })
 
 new_sender : (me bound k : ℕ) (m : MailboxView) (q port : PortView) → IsFirstPort me bound k m q → port ≡ issued q → IsNewSender me m port
@@ -189,6 +191,7 @@ bound_moved me j m q ne first = record {
   mine = first.mine;
   back = first.back;
   collects = first.collects;
+  finds = first.finds;
 }
 
 module _ (me : ℕ) (mails : List MailboxView) (masters : List PortView) (m : MailboxView) (q : PortView) (opened : AreIssued me mails masters) (inside : me < length mails) (few : length mails ≤ 128)
@@ -221,6 +224,7 @@ module _ (me : ℕ) (mails : List MailboxView) (masters : List PortView) (m : Ma
         mine = own_first.mine;
         back = own_first.back;
         collects = own_first.collects;
+        finds = own_first.finds;
       })
 
   pub hand_all : (new : PortView) → new ≡ after_hand q → AreOpened (me + 1) mails (set masters me new)
@@ -318,6 +322,7 @@ served_none plan place own rows k m q new = record {
     part = ap (λ (c : CountView). c.parts) new.count;
     mine = ap (λ (c : CountView). c.mine) new.count;
     none = ap (λ (c : CountView). c.collects) new.count;
+    finds = ap (λ (c : CountView). c.findings) new.count;
   };
   counted = record {
     drawn = λ no. absurd (omega (arith, no));
@@ -345,7 +350,11 @@ fates_none : (p : SharedNode Secrets) (first : SeatView Secrets) → HasFates ac
 fates_none p first = record { refusals = tt; once = tt; held = λ j no. absurd (omega (arith, no)); came = tt }
 
 alone_first : (n : CountView) (room : ℕ) → n ≡ one_part room → HasCollectedAlone 0 n
-alone_first n room is = subst (HasCollectedAlone 0) (sym is) (record { parts = refl; mine = refl; full = refl; collects = refl })
+alone_first n room is = subst (HasCollectedAlone 0) (sym is) (record { parts = refl; mine = refl; full = refl; collects = refl; each = refl })
+
+-- no collect took anything
+took_none : (room least : ℕ) (inbox : PortView) → inbox.count ≡ one_part room → TookAllDue least inbox.count.findings 0
+took_none room least inbox new = subst (λ (n : CountView). TookAllDue least n.findings 0) (sym new) (record { parts = []; all = refl; each = tt })
 
 -- with a seat that added nothing, ports that put in nothing, one that took nothing, and an empty log
 begins : (plan : Plan) (place : ℕ) (mails : List MailboxView) (p : SharedNode Secrets) (own : ℕ) (log : Log) (first : SeatView Secrets) (ports : List PortView) (inbox : PortView) → own < length mails → 0 < p.start.start.limit →
@@ -355,7 +364,7 @@ begins plan place mails p own log first ports inbox inside room seat new senders
   me = inside;
   seat = seat_split_off accepts_by p first seat;
   fates = subst (λ (z : List Message × List RefusedMessage). HasFates accepts_by p (split_off first) z.0 z.1) (λ i. (sym new.taken i, sym new.refused i)) (fates_none p first);
-  inbox = λ m. subst (λ (l : List Message). IsInbox (get_or mails own m) l inbox) (sym new.taken) (record { of = (box m).of; view = (box m).view });
+  inbox = λ m. subst (λ (l : List Message). IsInbox (get_or mails own m) l inbox) (sym new.taken) (record { of = (box m).of; view = (box m).view; took = took_none (get_or mails own m).room (get_or mails own m).room inbox (box m).count });
   alone = alone_first inbox.count (get_or mails own (some_of mails own inside)).room (box (some_of mails own inside)).count;
   served = served_nobody plan place own (bytes_seen p (split_off first)) mails log.dispatches.items ports new.dispatches senders;
   room = room;

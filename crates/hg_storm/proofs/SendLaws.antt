@@ -81,6 +81,7 @@ sends_none from place p = record {
   parts = refl;
   mine = omega arith;
   collects = refl;
+  finds = refl;
   seen = omega arith;
 }
 
@@ -97,6 +98,7 @@ sends_one from place rows bytes p q r sends posted =
       parts = posted.parts ∙ sends.parts;
       mine = omega (arith, posted.mine, sends.mine, length_push rows bytes);
       collects = posted.collects ∙ sends.collects;
+      finds = posted.findings ∙ sends.finds;
       seen = omega (arith, posted.seen, sends.seen);
     }
   where
@@ -111,6 +113,7 @@ sends_still room from place rows m back p q r sends full = record {
   parts = full.parts ∙ sends.parts;
   mine = full.mine ∙ sends.mine;
   collects = full.collects ∙ sends.collects;
+  finds = full.findings ∙ sends.finds;
   seen = omega (arith, full.seen, sends.seen);
 }
 
@@ -154,6 +157,7 @@ sent_more m from rows piece place most k p q sent is le of sends =
       part = sends.parts ∙ sent.part;
       mine = omega (arith, sends.mine, sent.mine, length-take-le k piece le);
       none = sends.collects ∙ sent.none;
+      finds = sends.finds ∙ sent.finds;
     }
   where
     place_is : (xs : List (List ℕ)) (n : ℕ) → length xs ≡ n → n ≡ 0 + length xs
@@ -231,6 +235,7 @@ module _ {V : Type 0} (p : SharedNode V) where
         part = has.part;
         mine = has.mine;
         none = has.none;
+        finds = has.finds;
       }
 
   pub counted_later : (s t : SeatView V) (m : MailboxView) (from sent : ℕ) (q : PortView) → IsPrefix s.seen t.seen → HasSent m from (bytes_seen p s) sent q → HasSent m from (bytes_seen p t) q.count.mine q

@@ -99,8 +99,8 @@ module _ (plan : Plan) (place : ℕ) (mails : List MailboxView) (p : SharedNode 
     of_own : (out : List Message) → IsInbox m out new.inbox → HasOut old.me out
     of_own out is n = subst (λ (x : MailboxView). IsInbox x out new.inbox) (m_is ∙ get_or_default mails old.me m n was.me) is
 
-    counted_once : (more : List Message) → Collects old.inbox more new.inbox → HasCollectedAlone (made + 1) new.inbox.count
-    counted_once more collects = alone_on made old.inbox new.inbox more was.alone collects
+    counted_once : (more : List Message) → Collects m.room old.inbox more new.inbox → HasCollectedAlone (made + 1) new.inbox.count
+    counted_once more collects = alone_on m.room made old.inbox new.inbox more was.alone collects
 
     none_out : (new.inbox ≡ old.inbox) × (taken_now ≡ taken) → HasStopped mails p made new
     none_out same =
@@ -111,7 +111,7 @@ module _ (plan : Plan) (place : ℕ) (mails : List MailboxView) (p : SharedNode 
     some_out : LosesSome m old.inbox new.inbox taken taken_now → HasStopped mails p made new
     some_out some =
         stops some.lost (of_own (taken_now ++ some.lost) (inbox_on m taken (taken_now ++ some.lost) old.inbox new.inbox own_inbox some.out))
-        (inr (counted_once some.out.more some.out.port)) (put_same ports)
+        (inr (counted_once some.out.more some.out.collects)) (put_same ports)
 
     pub stops_taking : LosesRest m old.inbox new.inbox taken taken_now → HasStopped mails p made new
     stops_taking loses = ⊎_elim none_out some_out loses
@@ -121,7 +121,7 @@ module _ (plan : Plan) (place : ℕ) (mails : List MailboxView) (p : SharedNode 
     stops_making takes =
         let all : taken_now ≡ taken_now ++ [] = sym (append-nil taken_now) in
         stops [] (of_own (taken_now ++ []) (subst (λ (out : List Message). IsInbox m out new.inbox) all (inbox_on m taken taken_now old.inbox new.inbox own_inbox takes)))
-        (inr (counted_once takes.more takes.port)) (put_same ports)
+        (inr (counted_once takes.more takes.collects)) (put_same ports)
 
   -- in a call that sends to a member
   module _ (k : ℕ) (inside : k < length mails) (m : MailboxView) (c : Dispatch) (q r : PortView)

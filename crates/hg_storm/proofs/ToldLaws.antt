@@ -11,6 +11,9 @@ use Rattle.hg_life.specs.NodeView.{IsNode, NodeView, node_rows, terms_of}
 use Rattle.hg_life.specs.Signing.{accepts_by}
 use Rattle.hg_life.specs.Spelling.{spelling}
 use Rattle.hg_mail.specs.declared.message.Message.{Message}
+use Rattle.hg_mail.specs.declared.view.Finding.{Finding}
+use Rattle.hg_mail.specs.declared.view.CountView.{CountView}
+use Rattle.hg_mail.specs.Count.{AreFoundBy}
 use Rattle.hg_mail.specs.Messages.{AreFrom, messages_of}
 use Rattle.hg_mail.specs.Mailboxes.{MailboxView, PortView}
 use Rattle.hg_board.specs.Positions.{AreBelow, times}
@@ -33,9 +36,10 @@ use Rattle.hg_storm.specs.Keeping.{Secrets, is_made, rows_made, rows_made_in}
 use Rattle.hg_storm.specs.Sending.{bytes_seen}
 use Rattle.hg_storm.specs.Threads.{HaveRoom, no_dispatch, place_of, turns_of}
 use Rattle.hg_storm.specs.Turning.{HadRows, HasCounted, IsCounted, WasDue, own_rows, rows_by}
-use Rattle.hg_storm.specs.Joins.{AreAbsorbed, AreEmptied, AreTold, EmptyAll, HasCollected, HasEmptied, HaveCollected, HaveEmptied, IsBack, IsSentTo, IsTold, TakeOut, Tale, dispatch_to, full_to, known_back, put_by, put_to, rows_of_node, sum_below, tale_of, tale_told}
+use Rattle.hg_storm.specs.Receiving.{TookAllDue}
+use Rattle.hg_storm.specs.Joins.{AreAbsorbed, AreEmptied, AreTold, Empties, EmptyAll, HasCollected, HasEmptied, HaveCollected, HaveEmptied, IsBack, IsSentTo, IsTold, TakeOut, Tale, dispatch_to, full_to, known_back, put_by, put_to, rows_of_node, sum_below, tale_of, tale_told}
 use Rattle.hg_storm.proofs.BackLaws.{first_of}
-use Rattle.hg_storm.proofs.CloseLaws.{all_are_emptied}
+use Rattle.hg_storm.proofs.CloseLaws.{back_parts, all_are_emptied}
 use Rattle.hg_storm.proofs.EndLaws.{fates_last}
 use Rattle.hg_storm.proofs.FateLaws.{take_later}
 use Rattle.hg_storm.proofs.MadeLaws.{is_made_in, made_front}
@@ -256,24 +260,28 @@ module _ {Z : Type 0} (plan : Plan) (room : ℕ) (mails : List MailboxView) (nod
         ap (λ (n : ℕ). full_to its_tale n k) mails_count
         ∙ sum_same (length ends) _ _ (λ i low. ap (λ (log : Log). (dispatch_to log k).full) (log_is i g (some_job k inside) low))
 
-    port_told : (l : Vec Message Z) (m : MailboxView) (q r : PortView) → IsBack its_tale (length mails) (length mails) k m q → HasEmptied q (get_or left k l).items r →
-        HasCollected (tale_told plan ends logs v g) (length ends) k (get_or left k l).items r
-    port_told l m q r back out =
+    port_told : (l : Vec Message Z) (m : MailboxView) (q r : PortView) → m.room ≡ room → IsBack its_tale (length mails) (length mails) k m q → Empties m q (get_or left k l).items →
+        HasEmptied q (get_or left k l).items r → HasCollected (tale_told plan ends logs v g) (length ends) k room (get_or left k l).items r
+    port_told l m q r fits back empty out =
         let low : k < length mails = omega (arith, inside, mails_count) in
         let known : known_back (nat_le (length mails) k) (its_tale.collects k) ≡ its_tale.collects k = ap (λ (b : Bool). known_back b (its_tale.collects k)) (lt-leb (length mails) k low) in record {
           collects = out.collects ∙ (back.collects ∙ (known ∙ collects_same));
           back = out.back ∙ (back.often ∙ often_same);
+          each = ap length out.finds ∙ (back.each low ∙ collects_same);
+          found = subst (λ (x : List ℕ × List Finding). AreFoundBy x.0 x.1) (λ i. (sym out.dates i, sym out.finds i)) (empty.found (back_parts its_tale (length mails) k m q low back));
+          took = subst (λ (x : ℕ × List Finding × List Message). TookAllDue x.0 x.1 (length x.2))
+              (λ i. (fits i, sym out.finds i, ap (λ (log : Log). log.intake.taken.items) (log_is k g (some_job k inside) inside) i)) (back.took low);
           taken = out.taken ∙ ap (λ (ms : List Message). ms ++ (get_or left k l).items) (back.taken low ∙ ap (λ (log : Log). log.intake.taken.items) (log_is k g (some_job k inside) inside));
         }
 
-  pub have_collected : (ports : List PortView) → HaveEmptied masters left ports → HaveCollected plan ends logs left ports
+  pub have_collected : (ports : List PortView) → HaveEmptied masters left ports → HaveCollected plan room ends logs left ports
   have_collected ports out = record {
     count = omega (arith, out.count, takes.count, mails_count);
     each = λ k v g l q inside.
         let low : k < length mails = omega (arith, inside, mails_count) in
         let m : MailboxView = some_of mails k low in
-        port_told k v g inside l (get_or mails k m) (get_or masters k q) (get_or ports k q) ((absorbed.back (some_place k inside) (some_job k inside)).each k m q low)
-        (out.each k q q l (omega (arith, low, takes.count)));
+        port_told k v g inside l (get_or mails k m) (get_or masters k q) (get_or ports k q) (rooms k m low) ((absorbed.back (some_place k inside) (some_job k inside)).each k m q low)
+        (emptied.each k q l (omega (arith, low, takes.count)) m) (out.each k q q l (omega (arith, low, takes.count)));
   }
 
   pub are_told : AreTold plan room ends logs left

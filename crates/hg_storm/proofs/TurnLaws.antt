@@ -1,5 +1,5 @@
 -- A member's turn: what it takes and makes, and what it sends
-use Rattle.std.proofs.Common.{◌≡◌, ◌≢◌, ⊎_elim, ℕ, zero, suc, ◌==◌, ◌+◌, ◌<◌, ◌≤◌, Bool, true, false, cond, List, length, length-set, set, get_or, refl, sym, ap, ◌∙◌, subst, arith}
+use Rattle.std.proofs.Common.{◌≡◌, ◌≢◌, ⊎_elim, ℕ, zero, suc, ◌==◌, ◌+◌, ◌<◌, ◌≤◌, Bool, true, false, cond, List, [], ◌∷◌, ◌++◌, length, length-append, length-set, set, get_or, refl, sym, ap, ◌∙◌, subst, arith}
 use mathlib.Core.Logic.{dite}
 use native.Mathlib.Decide.{ℕ_discrete}
 use Rattle.std.proofs.lemmas.Bool.{eq-eqb}
@@ -12,6 +12,7 @@ use Rattle.hg_life.specs.Signing.{accepts_by}
 use Rattle.hg_gossip.specs.Holding.{positions_from}
 use Rattle.hg_mail.specs.declared.message.Message.{Message}
 use Rattle.hg_mail.specs.declared.view.View.{View}
+use Rattle.hg_mail.specs.declared.view.Finding.{Finding}
 use Rattle.hg_mail.specs.Messages.{after_taking, receiver_view}
 use Rattle.hg_mail.specs.Mailboxes.{Collects, MailboxView, PortView}
 use Rattle.hg_board.specs.Positions.{AreBelow}
@@ -28,7 +29,8 @@ use Rattle.hg_made.specs.Draws.{next_state, state_after}
 use Rattle.hg_storm.specs.Drawing.{Draws, HasDrawn, IsDrawing, first_state, peer_at, state_at, times_drawn}
 use Rattle.hg_storm.specs.Fates.{HasFates}
 use Rattle.hg_storm.specs.Keeping.{AddsNoRow, KeepsSeat, Secrets, rows_made, rows_made_in}
-use Rattle.hg_storm.specs.Receiving.{HasCollectedAlone, IsInbox, TakesMore}
+use Rattle.hg_storm.specs.Receiving.{HasCollectedAlone, IsInbox, TakesMore, TookAllDue}
+use Rattle.hg_storm.proofs.TakeLaws.{took_next}
 use Rattle.hg_storm.specs.Sending.{Dispatches, HasSent, IsDue, SendsAll, SendsSome, bytes_seen}
 use Rattle.hg_storm.specs.Turning.{AreIdle, HasCounted, HasEnded, HasMade, HasServed, HasServedAll, IsCounted, IsIdleTurn, Standing, WasDue, is_row}
 use Rattle.hg_storm.proofs.KeepLaws.{making_keeps, still_keeps}
@@ -78,23 +80,35 @@ drawn_next plan me t old new is others next =
 
 pub inbox_on : (m : MailboxView) (old new : List Message) (p q : PortView) → IsInbox m old p → TakesMore m p q old new → IsInbox m new q
 inbox_on m old new p q is takes = record {
-  of = (takes.port.queue ∙ is.of.0, takes.port.table ∙ is.of.1, takes.port.room ∙ is.of.2);
-  view = takes.port.view ∙ (ap (λ (v : View). after_taking v takes.more) is.view ∙ ap receiver_view (sym takes.grown));
+  of = (takes.collects.queue ∙ is.of.0, takes.collects.table ∙ is.of.1, takes.collects.room_is ∙ is.of.2);
+  view = all;
+  took = subst (λ (x : List Finding × ℕ). TookAllDue m.room x.0 x.1) (λ i. (sym takes.collects.findings i, sym long i)) (took_next m.room (length old) p.count.findings takes.collects.finding (length takes.more) is.took (record {
+    most = takes.collects.most;
+    fewer = λ few. omega (arith, takes.collects.fewer few, ap (λ (v : View). length v.taken) all, long);
+  }));
 }
+  where
+    all : q.view ≡ receiver_view new
+    all = takes.collects.view ∙ (ap (λ (v : View). after_taking v takes.more) is.view ∙ ap receiver_view (sym takes.grown))
 
-pub alone_on : (times : ℕ) (p q : PortView) (more : List Message) → HasCollectedAlone times p.count → Collects p more q → HasCollectedAlone (times + 1) q.count
-alone_on times p q more is takes = record {
+    long : length new ≡ length old + length takes.more
+    long = ap length takes.grown ∙ length-append old takes.more
+
+-- .. and it collected once more
+pub alone_on : (room times : ℕ) (p q : PortView) (more : List Message) → HasCollectedAlone times p.count → Collects room p more q → HasCollectedAlone (times + 1) q.count
+alone_on room times p q more is takes = record {
   parts = takes.parts ∙ is.parts;
   mine = takes.mine ∙ is.mine;
   full = takes.full ∙ is.full;
   collects = omega (arith, takes.collects, is.collects);
+  each = ap length takes.findings ∙ omega (arith, length-append p.count.findings (takes.finding ∷ []), is.each);
 }
 
 -- the turn's row is made, or could not be
 module _ (plan : Plan) (place : ℕ) (mails : List MailboxView) (p : SharedNode Secrets) (drawn made me : ℕ) (log log_now : Log) (s t u : SeatView Secrets) (ports : List PortView) (inbox inbox_now : PortView)
     (old : Standing plan place mails p drawn made me log s ports inbox) (m : MailboxView) (m_is : m ≡ get_or mails me m)
     (still : IsStill s t) (keeps : KeepsSeat accepts_by p s t) (no_row : AddsNoRow s t)
-    (box : IsInbox m log_now.intake.taken.items inbox_now) (more_out : List Message) (count : Collects inbox more_out inbox_now)
+    (box : IsInbox m log_now.intake.taken.items inbox_now) (more_out : List Message) (count : Collects m.room inbox more_out inbox_now)
     (fates : HasFates accepts_by p t log_now.intake.taken.items log_now.intake.refused.items)
     (stays : Stays accepts_by p t u) (b : Bool) (has : HasMade p t (made + 1) u b)
     (dispatches : log_now.dispatches.items ≡ log.dispatches.items) (idle : log_now.idle ≡ log.idle + cond b 0 1) where
@@ -179,7 +193,7 @@ module _ (plan : Plan) (place : ℕ) (mails : List MailboxView) (p : SharedNode 
     seat = record { of = stays.of; begun = stays.begun; within = stays.within; node = stays.node };
     fates = making_keeps Secrets accepts_by p t u (made + 1) has.answer has.next log_now.intake.taken.items log_now.intake.refused.items fates;
     inbox = λ m'. subst (λ (x : MailboxView). IsInbox x log_now.intake.taken.items inbox_now) (m_is ∙ get_or_default mails me m m' old.me) box;
-    alone = alone_on made inbox inbox_now more_out old.alone count;
+    alone = alone_on m.room made inbox inbox_now more_out old.alone count;
     served = subst (λ (ds : List Dispatch). HasServedAll plan me place drawn (bytes_seen p u) mails ds ports) (sym dispatches) (all_later plan me place p s u first drawn mails log.dispatches.items ports old.served);
     room = old.room;
     some = λ _. some_rows p t u (made + 1) has.answer has.next old.room;

@@ -6,7 +6,7 @@ use Rattle.hg_life.specs.NodeView.{IsNode, NodeView, node_rows}
 use Rattle.hg_storm.specs.Keeping.{Secrets}
 use Rattle.hg_mail.specs.declared.message.Message.{Message}
 use Rattle.hg_mail.specs.declared.view.Sender.{Sender}
-use Rattle.hg_mail.specs.Count.{all_parts}
+use Rattle.hg_mail.specs.Count.{AreFoundBy, all_parts}
 use Rattle.hg_mail.specs.Messages.{AreFrom, IsEmptied, IsWhole, after_taking, messages_of, sender}
 use Rattle.hg_mail.specs.Mailboxes.{IsPortOf, MailboxView, PortView, joined}
 use Rattle.hg_board.specs.Seats.{IsOf, SharedNode, SeatView}
@@ -19,6 +19,7 @@ use Rattle.hg_storm.specs.declared.desk.Job.{Job}
 use Rattle.hg_storm.specs.Sending.{bytes_seen, messages_from}
 use Rattle.hg_storm.specs.Drawing.{HasDrawn, times_drawn}
 use Rattle.hg_storm.specs.Ends.{EndsWithFates}
+use Rattle.hg_storm.specs.Receiving.{TookAllDue}
 use Rattle.hg_storm.specs.Turning.{AreIdle, AreTurnRows, HadRows, IsCounted, Stands, WasDue, own_rows, rows_by}
 use Rattle.hg_storm.specs.Threads.{Pairs, no_dispatch, place_of, turns_of}
 
@@ -85,6 +86,9 @@ pub record IsBack (tale : Tale) (n back k : ℕ) (m : MailboxView) (q : PortView
   pub full : (j : ℕ) → j < back → 0 < tale.full j k → m.room ≤ q.count.seen
   pub often : q.count.full ≡ full_to tale back k
   pub collects : q.count.collects ≡ known_back (nat_le back k) (tale.collects k)
+  pub finds : back ≤ k → q.count.findings ≡ []
+  pub each : k < back → length q.count.findings ≡ tale.collects k
+  pub took : k < back → TookAllDue m.room q.count.findings (length (tale.taken k))
 
 abbrev pub AreBack : Tale → ℕ → ℕ → List MailboxView → List PortView → Type 0
 AreBack tale n back mails masters = Pairs (IsBack tale n back) mails masters
@@ -126,6 +130,7 @@ pub record Empties (m : MailboxView) (q : PortView) (left : List Message) : Type
   pub known : q.view.gives ≡ true → AreFrom q.view.next (q.view.taken ++ left)
   pub whole : q.count.parts ≡ all_parts → q.count.seen ≤ q.count.mine
   pub few : IsWhole q.view → length left ≤ m.room
+  pub found : q.count.parts ≡ all_parts → AreFoundBy q.count.dates q.count.findings
 
 -- each of these ports takes out
 abbrev pub TakeOut : List MailboxView → List PortView → Type 0
@@ -139,6 +144,8 @@ pub record HasEmptied (q : PortView) (left : List Message) (r : PortView) : Type
   pub taken : r.view.taken ≡ q.view.taken ++ left
   pub back : r.count.full ≡ q.count.full
   pub collects : r.count.collects ≡ q.count.collects
+  pub dates : r.count.dates ≡ q.count.dates
+  pub finds : r.count.findings ≡ q.count.findings
 
 -- so have all
 pub record HaveEmptied {Z : Type 0} (olds : List PortView) (left : List (Vec Message Z)) (news : List PortView) : Type 0 where
@@ -192,17 +199,21 @@ tale_told plan nodes logs v g = record {
 }
 
 -- by the first port of a member's mailbox, which took all others back: so often the member collected, and so often a message came
--- back; and what was taken out is what it took, and then what was left
-pub record HasCollected (tale : Tale) (n k : ℕ) (left : List Message) (q : PortView) : Type 0 where
+-- back; and what was taken out is what it took, and then what was left; each collect took what was due, which is told by the dates of
+-- all messages
+pub record HasCollected (tale : Tale) (n k room : ℕ) (left : List Message) (q : PortView) : Type 0 where
   pub collects : q.count.collects ≡ tale.collects k
+  pub each : length q.count.findings ≡ tale.collects k
+  pub found : AreFoundBy q.count.dates q.count.findings
+  pub took : TookAllDue room q.count.findings (length (tale.taken k))
   pub back : q.count.full ≡ full_to tale n k
   pub taken : q.view.taken ≡ tale.taken k ++ left
 
 -- so it is of all, by what nodes and logs tell; each collected once in each of its turns
-pub record HaveCollected {Z : Type 0} (plan : Plan) (nodes : List (NodeView Secrets)) (logs : List Log) (left : List (Vec Message Z)) (ports : List PortView) : Type 0 where
+pub record HaveCollected {Z : Type 0} (plan : Plan) (room : ℕ) (nodes : List (NodeView Secrets)) (logs : List Log) (left : List (Vec Message Z)) (ports : List PortView) : Type 0 where
   pub count : length ports ≡ length nodes
   pub each : (k : ℕ) (v : NodeView Secrets) (g : Log) (l : Vec Message Z) (q : PortView) → k < length nodes →
-      HasCollected (tale_told plan nodes logs v g) (length nodes) k (get_or left k l).items (get_or ports k q)
+      HasCollected (tale_told plan nodes logs v g) (length nodes) k room (get_or left k l).items (get_or ports k q)
 
 -- the nodes, the logs and what the mailboxes had left, once all threads are joined
 pub record AreTold {Z : Type 0} (plan : Plan) (room : ℕ) (nodes : List (NodeView Secrets)) (logs : List Log) (left : List (Vec Message Z)) : Type 0 where

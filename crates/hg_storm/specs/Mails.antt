@@ -6,6 +6,7 @@ use Rattle.hg_model.specs.declared.row.Row.{Row}
 use Rattle.hg_life.specs.NodeView.{NodeView, node_rows}
 use Rattle.hg_mail.specs.declared.message.Message.{Message}
 use Rattle.hg_mail.specs.Messages.{messages_of}
+use Rattle.hg_mail.specs.Count.{AreFoundBy}
 use Rattle.hg_mail.specs.Mailboxes.{PortView}
 use Rattle.hg_storm.specs.declared.plan.Plan.{Plan}
 use Rattle.hg_storm.specs.declared.sending.Dispatch.{Dispatch}
@@ -14,6 +15,7 @@ use Rattle.hg_storm.specs.declared.threads.Joined.{Joined}
 use Rattle.hg_storm.specs.declared.mails.Mail.{Mail}
 use Rattle.hg_storm.specs.Joins.{AreTold, IsSentTo, dispatch_to}
 use Rattle.hg_storm.specs.Keeping.{Secrets}
+use Rattle.hg_storm.specs.Receiving.{TookAllDue}
 use Rattle.hg_storm.specs.Threads.{turns_of}
 
 -- the names of a node's rows, in order
@@ -42,15 +44,23 @@ names_to mails to = sum_by (λ (m : Mail). cond (m.to == to) (length m.sent.item
 abbrev pub names_left : List Mail → ℕ → ℕ
 names_left mails to = sum_by (λ (m : Mail). cond (m.to == to) (length m.left.items) 0) mails
 
+-- how many it took
+abbrev pub names_taken : List Mail → ℕ → ℕ
+names_taken mails to = sum_by (λ (m : Mail). cond (m.to == to) (length m.taken.items) 0) mails
+
 -- how often one came back from its mailbox
 abbrev pub names_back : List Mail → ℕ → ℕ
 names_back mails to = sum_by (λ (m : Mail). cond (m.to == to) m.full 0) mails
 
--- By the port of a member's mailbox that took all others back: in each of its turns the member collected all that were counted and
--- not noted as taken out, or as many as there is room for; as many messages came back as is told, each while as many as that were
--- counted and not noted as taken out; and as many were taken out as names were sent to it.
-pub record IsCollected (plan : Plan) (mails : List Mail) (to : ℕ) (q : PortView) : Type 0 where
+-- By the port of a member's mailbox that took all others back: the member collected once in each of its turns, and took all that was
+-- sent but what is left. At each turn's collect it took all that had been counted when it noted that it collects, or as many as there
+-- is room for; what had been counted is told by the dates of all messages. As many messages came back as is told; and as many were
+-- taken out as names were sent to it.
+pub record IsCollected (plan : Plan) (room : ℕ) (mails : List Mail) (to : ℕ) (q : PortView) : Type 0 where
   pub collects : q.count.collects ≡ turns_of plan to
+  pub each : length q.count.findings ≡ turns_of plan to
+  pub found : AreFoundBy q.count.dates q.count.findings
+  pub took : TookAllDue room q.count.findings (names_taken mails to)
   pub back : q.count.full ≡ names_back mails to
   pub out : length q.view.taken ≡ names_to mails to
 

@@ -26,6 +26,7 @@ pub record HasSent (m : MailboxView) (from : ℕ) (rows : List (List ℕ)) (sent
   pub part : p.count.parts ≡ 1
   pub mine : p.count.mine ≡ sent
   pub none : p.count.collects ≡ 0
+  pub finds : p.count.findings ≡ []
 
 -- these rows were put in too
 pub record Sends (from place : ℕ) (rows : List (List ℕ)) (p q : PortView) : Type 0 where
@@ -33,6 +34,7 @@ pub record Sends (from place : ℕ) (rows : List (List ℕ)) (p q : PortView) : 
   pub parts : q.count.parts ≡ p.count.parts
   pub mine : q.count.mine ≡ p.count.mine + length rows
   pub collects : q.count.collects ≡ p.count.collects
+  pub finds : q.count.findings ≡ p.count.findings
   pub seen : p.count.seen ≤ q.count.seen
 
 -- no message came back meanwhile

@@ -65,7 +65,7 @@ pub record IsStorm (members : MemberList) (times room first : ℕ) (s : Storm) :
   pub session : HasSession (nodes_of (new_world members)) ends
   pub mail : AreMails plan room ends s.idle.items s.mail.items
   pub ports_count : length s.ports.items ≡ length ends
-  pub collected : (k : ℕ) (q : PortView) → k < length ends → IsCollected plan s.mail.items k (get_or s.ports.items k q)
+  pub collected : (k : ℕ) (q : PortView) → k < length ends → IsCollected plan room s.mail.items k (get_or s.ports.items k q)
   pub idle_count : length s.idle.items ≡ length ends
   pub refused_count : length s.refused.items ≡ length ends
   pub each : (k : ℕ) (v : NodeView Secrets) (i : ℕ) (l : Vec Refusal) → k < length ends →

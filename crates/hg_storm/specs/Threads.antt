@@ -43,6 +43,7 @@ pub record IsFirstPort (issued bound k : ℕ) (m : MailboxView) (q : PortView) :
   pub mine : q.count.mine ≡ 0
   pub back : q.count.full ≡ 0
   pub collects : q.count.collects ≡ 0
+  pub finds : q.count.findings ≡ []
 
 -- so it is of all mailboxes, where so many members have their ports
 abbrev pub AreOpened : ℕ → List MailboxView → List PortView → Type 0

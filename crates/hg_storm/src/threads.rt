@@ -47,7 +47,7 @@ pub fn run_threads<C: Crew + Sync, G: Gate + Sync, R: Threads + Wait + Sync>(
     ensures session { IfOk result (λ r. HasSession nodes.items r.nodes.items) }
     ensures told { IfOk result (λ r. AreTold plan.now room r.nodes.items r.logs.items r.left.items) }
     // Each member collected in each of its turns, as the port of its mailbox has counted.
-    ensures collected { IfOk result (λ r. HaveCollected plan.now r.nodes.items r.logs.items r.left.items r.ports.items) }
+    ensures collected { IfOk result (λ r. HaveCollected plan.now room r.nodes.items r.logs.items r.left.items r.ports.items) }
 {
     let (mailboxes, mut masters) = open_all(alloc, nodes.len(), room)?;
     let (shared, seats) = start_all(alloc, nodes)?;

@@ -17,4 +17,6 @@ invariant-tries g l = record {
   full : l.seat.me.0.full ≡ l.fn.seat.me.0.full;
   collects : l.seat.me.0.collects ≡ l.fn.seat.me.0.collects;
   seen : l.fn.seat.me.0.seen ≤ l.seat.me.0.seen;
+  dates : l.seat.me.0.dates ≡ l.fn.seat.me.0.dates;
+  findings : l.seat.me.0.findings ≡ l.fn.seat.me.0.findings;
 }

@@ -8,5 +8,5 @@ returns-in_err-messages-clause-lost g c = on_err c.from_residual.result _ (inl (
 pub returns-clause-lost : goal.returns-clause-lost
 returns-clause-lost g c =
     let e = c.in_ok-messages.ensures in
-    loses_rest c.args.mailbox.now c.args.inbox.now c.collect.new.port c.args.intake.now.taken.items c.take_all.new.intake.taken.items c.in_ok-messages.messages.items e.collects e.most
+    loses_rest c.args.mailbox.now c.args.inbox.now c.collect.new.port c.args.intake.now.taken.items c.take_all.new.intake.taken.items c.in_ok-messages.messages.items e.collects
     c.take_all.result c.take_all.ensures.lost

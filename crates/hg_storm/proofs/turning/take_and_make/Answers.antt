@@ -26,7 +26,7 @@ returns-then-not-made-clause-makes g c plan place drawn stands =
     let has = subst (λ (n : ℕ). HasMade p c.receive.new.seat (n + 1) c.make_row.new.seat c.in_ok-made.made) c.from.ensures c.in_ok-made.ensures.made in
     let idle = ap (λ (b : Bool). c.args.desk.now.log.idle + cond b 0 1) (sym c.if-not-made.true) in
     makes_more plan place c.args.mailboxes.now p drawn c.args.t c.args.desk.now.me c.args.desk.now.log _ c.args.desk.now.seat c.receive.new.seat c.make_row.new.seat c.args.desk.now.ports.items c.args.desk.now.inbox c.receive.new.inbox
-    stands c.index-mailboxes-desk.result c.index-mailboxes-desk.is e.still e.seat e.made box e.more.more e.more.port e.fates c.make_row.ensures.stays c.in_ok-made.made has refl idle
+    stands c.index-mailboxes-desk.result c.index-mailboxes-desk.is e.still e.seat e.made box e.more.more e.more.collects e.fates c.make_row.ensures.stays c.in_ok-made.made has refl idle
 
 pub returns-else-not-made-clause-makes : goal.returns-else-not-made-clause-makes
 returns-else-not-made-clause-makes g c plan place drawn stands =
@@ -40,7 +40,7 @@ returns-else-not-made-clause-makes g c plan place drawn stands =
     let none : n ≡ n + cond true 0 1 = omega arith in
     let idle = none ∙ ap (λ (b : Bool). n + cond b 0 1) (sym c.if-not-made.false) in
     makes_more plan place c.args.mailboxes.now p drawn c.args.t c.args.desk.now.me c.args.desk.now.log _ c.args.desk.now.seat c.receive.new.seat c.make_row.new.seat c.args.desk.now.ports.items c.args.desk.now.inbox c.receive.new.inbox
-    stands c.index-mailboxes-desk.result c.index-mailboxes-desk.is e.still e.seat e.made box e.more.more e.more.port e.fates c.make_row.ensures.stays c.in_ok-made.made has refl idle
+    stands c.index-mailboxes-desk.result c.index-mailboxes-desk.is e.still e.seat e.made box e.more.more e.more.collects e.fates c.make_row.ensures.stays c.in_ok-made.made has refl idle
 
 pub returns-in_err-receive-clause-stopped : goal.returns-in_err-receive-clause-stopped
 returns-in_err-receive-clause-stopped g c =
