@@ -1,2 +1,4 @@
 pub mod HeadLaws
+pub mod NoteLaws
+pub mod SequenceLaws
 pub mod ServeLaws

@@ -1,3 +1,11 @@
 //! What a node answers to a host program. `specs/Answering.antt` says it of each request, `specs/Serving.antt` of all lines that
 //! are heard, and `specs/Steps.antt` over which nodes that leads.
 #![tactic(auto)]
+
+mod notes;
+mod order_notes;
+mod row_notes;
+
+pub use notes::Notes;
+pub use order_notes::OrderNotes;
+pub use row_notes::RowNotes;
