@@ -51,7 +51,7 @@ later_in m (row ∷ G) before name is =
         inr (either_first (bytes_eq name row.name) _ ((bytes_eq-Decides name row.name).1 (sym same)))
     by_row false own one = inl one
 
-last_held : (m : ℕ) (G : List Row) (name : List ℕ) → last_name m G ≡ Some name → is_held G name ≡ true
+pub last_held : (m : ℕ) (G : List Row) (name : List ℕ) → last_name m G ≡ Some name → is_held G name ≡ true
 last_held m G name is = sym (held_is G name) ∙ ⊎_elim (λ none. absurd cc) (λ there. there) (later_in m G None name is)
 
 some_held : (m : ℕ) (G : List Row) (found : Option (List ℕ)) → last_name m G ≡ found → is_some found ≡ true → is_held G (unwrap_or found []) ≡ true

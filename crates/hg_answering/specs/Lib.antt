@@ -1,7 +1,9 @@
 pub mod Answering
 pub mod Notes
+pub mod OrderNotes
 pub mod Putting
 pub mod RowNotes
 pub mod Serving
 pub mod Steps
 pub mod Telling
+pub mod Told

@@ -5,7 +5,10 @@
 mod notes;
 mod order_notes;
 mod row_notes;
+mod telling;
+mod told;
 
 pub use notes::Notes;
 pub use order_notes::OrderNotes;
 pub use row_notes::RowNotes;
+pub use telling::{balances, events, heads, proof, state};

@@ -3,8 +3,10 @@ ghost use Rattle.hg_answering.specs.Telling.{has_payload};
 ghost use Rattle.hg_model.specs.Order.{sequence_of};
 ghost use Rattle.hg_model.specs.Places.{table};
 ghost use Rattle.hg_model.specs.Stakes.{member_count};
+ghost use Rattle.hg_answering.specs.Told.{members_flagged, names_there};
 ghost use Rattle.hg_answering.specs.RowNotes.{AreFirst, first_notes, notes_of, with_unbound};
 
+use crate::told::{members_flagged, names_there};
 use hg_graph::EventGraph;
 use hg_model::{Member, Memory, Name, Prefix, Row, Sight, is_of_graph, is_shaped};
 use std::alloc::Global;
@@ -70,7 +72,7 @@ fn note_strange(strange: &mut Vec<bool>, bound: &[u8], row: &Row)
 }
 
 /// Whether the row has a payload, as a number.
-fn payloads_in(row: &Row) -> u64
+pub(crate) fn payloads_in(row: &Row) -> u64
     ensures { result ≡ cond (has_payload row.now) 1 0 }
 {
     u64::from(!row.payload.as_slice().is_empty())
@@ -115,5 +117,34 @@ impl RowNotes {
             self.note(bound, graph, x)?;
         }
         Ok(())
+    }
+
+    /// The strange members.
+    pub(crate) fn strange(&self, alloc: Global) -> Result<Vec<Member>, Memory>
+        requires { length self.now.strange ≤ 128 }
+        ensures { IfOk result (λ members. members.items ≡ members_flagged self.now.strange) }
+    {
+        members_flagged(alloc, self.strange.as_slice())
+    }
+
+    /// The names of the members' last rows.
+    pub(crate) fn heads(&self, alloc: Global) -> Result<Vec<Name>, Memory>
+        ensures { IfOk result (λ names. names.items ≡ names_there self.now.lasts) }
+    {
+        names_there(alloc, self.lasts.as_slice())
+    }
+
+    /// How many self-ancestors each row has, other than itself.
+    pub(crate) fn sequences(&self) -> &[u64]
+        ensures { result.now ≡ self.now.sequences }
+    {
+        self.sequences.as_slice()
+    }
+
+    /// How many rows have a payload.
+    pub(crate) fn payloads(&self) -> u64
+        ensures { result ≡ self.now.payloads }
+    {
+        self.payloads
     }
 }
