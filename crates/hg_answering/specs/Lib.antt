@@ -1,4 +1,5 @@
 pub mod Answering
+pub mod Beyond
 pub mod Notes
 pub mod OrderNotes
 pub mod Putting
