@@ -1,5 +1,6 @@
 pub mod BeyondLaws
 pub mod HeadLaws
+pub mod LagLaws
 pub mod NoteLaws
 pub mod SequenceLaws
 pub mod OrderLaws

@@ -18,7 +18,8 @@ use Rattle.hg_model.specs.Stakes.{Stakes, member_count}
 use Rattle.hg_model.specs.declared.row.Row.{Row}
 use Rattle.hg_life.specs.Verdict.{last_name, later_name}
 use Rattle.hg_service.specs.Binding.{is_strange, is_strange_row}
-use Rattle.hg_answering.specs.RowNotes.{RowNotesView, first_notes, is_unbound, notes_of, with_unbound}
+use Rattle.hg_model.specs.Prefix.{Graph}
+use Rattle.hg_answering.specs.RowNotes.{AreFirst, RowNotesView, first_notes, is_unbound, notes_of, with_unbound}
 use Rattle.hg_answering.specs.Telling.{has_payload}
 use Rattle.hg_model.proofs.LinkLaws.{creator-links, length-links}
 use Rattle.hg_answering.proofs.SequenceLaws.{sequence_later}
@@ -170,14 +171,23 @@ table_same : {A : Type 0} (one two : ℕ → A) (n : ℕ) (nothing : A) → ((m 
 table_same one two n nothing same =
     fill_by_all two (table one n) n nothing (length-map-range_with_len one 0 n) (λ m below. get_or-map-range_with_len one 0 n m m nothing below (zero-add m) ∙ same m below)
 
--- the notes of rows are those of as many first ones, once others came behind them
-pub notes_later : (bound : List ℕ) (count : ℕ) (n : Stakes) (G more : List Row) → IsShaped n (links G) → notes_of bound count G ≡ first_notes bound count (G ++ more) (length G)
-notes_later bound count n G more shaped =
-    let front : take (length G) (G ++ more) ≡ take (length G) G = take-append-le (length G) G more (omega arith) in
+-- the notes of first rows are the same, once others came behind them
+pub notes_later : (bound : List ℕ) (count : ℕ) (n : Stakes) (G more : List Row) (len : ℕ) → IsShaped n (links G) → len ≤ length G
+    → first_notes bound count G len ≡ first_notes bound count (G ++ more) len
+notes_later bound count n G more len shaped within =
+    let front : take len (G ++ more) ≡ take len G = take-append-le len G more within in
     ap₂ (λ (H : List Row) (sequences : List ℕ). (let notes : RowNotesView = record {
       lasts = table (λ m. last_name m H) count;
       strange = table (is_strange bound H) count;
       sequences = sequences;
       payloads = count_by has_payload H;
     } in notes)) (sym front)
-    (table_same (sequence_of (links G)) (sequence_of (links (G ++ more))) (length G) 0 (λ x inside. sym (sequence_later n G more shaped x inside)))
+    (table_same (sequence_of (links G)) (sequence_of (links (G ++ more))) len 0 (λ x inside. sym (sequence_later n G more shaped x (omega (arith, inside, within)))))
+
+pub first_at : (bound : List ℕ) (g : Graph) (notes : RowNotesView) (x : ℕ) → x ≤ length g.rows → notes ≡ first_notes bound (member_count g.members) g.rows x → AreFirst bound g notes
+first_at bound g notes x within is =
+    let long : length notes.sequences ≡ x = ap (λ (v : RowNotesView). length v.sequences) is ∙ length-map-range_with_len (sequence_of (links g.rows)) 0 x in
+    record {
+      within = omega (arith, within, long);
+      noted = is ∙ ap (first_notes bound (member_count g.members) g.rows) (sym long);
+    }

@@ -3,6 +3,7 @@
 #![tactic(auto)]
 
 mod beyond_rows;
+mod following;
 mod notes;
 mod order_notes;
 mod ordering;
@@ -11,6 +12,7 @@ mod telling;
 mod told;
 
 pub use beyond_rows::beyond;
+pub use following::follow;
 pub use notes::Notes;
 pub use order_notes::OrderNotes;
 pub use ordering::order;

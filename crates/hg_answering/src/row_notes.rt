@@ -1,4 +1,4 @@
-ghost use Rattle.std.specs.Prelude.{◌≡◌, ◌<◌, ◌≤◌, ◌+◌, [], IfOk, None, Some, OnOk, cond, length, slice_set, take};
+ghost use Rattle.std.specs.Prelude.{◌≡◌, ◌<◌, ◌≤◌, ◌+◌, [], IfOk, None, Some, OnErr, OnOk, cond, length, slice_set, take};
 ghost use Rattle.hg_answering.specs.Telling.{has_payload};
 ghost use Rattle.hg_model.specs.Order.{sequence_of};
 ghost use Rattle.hg_model.specs.Places.{table};
@@ -95,8 +95,9 @@ impl RowNotes {
     fn note(&mut self, bound: &[u8], graph: &EventGraph, x: usize) -> Result<(), Memory>
         requires place { x < length graph.now.graph.rows }
         requires noted { self.old ≡ first_notes bound.now (member_count graph.now.graph.members) graph.now.graph.rows x }
-        ensures { OnOk result
+        ensures noted { OnOk result
             (self.new ≡ first_notes bound.now (member_count graph.now.graph.members) graph.now.graph.rows (x + 1)) }
+        ensures same { OnErr result (self.new ≡ self.old) }
     {
         is_of_graph(graph);
         let sequence = next_sequence(graph, self.sequences.as_slice(), x);
@@ -108,10 +109,11 @@ impl RowNotes {
         Ok(())
     }
 
-    /// Notes the rows that came since.
-    pub fn follow(&mut self, bound: &[u8], graph: &EventGraph) -> Result<(), Memory>
+    /// Notes the rows that came since; some first ones of them, where memory runs out.
+    pub(crate) fn follow(&mut self, bound: &[u8], graph: &EventGraph) -> Result<(), Memory>
         requires { AreFirst bound.now graph.now.graph self.old }
-        ensures { OnOk result (self.new ≡ notes_of bound.now (member_count graph.now.graph.members) graph.now.graph.rows) }
+        ensures noted { OnOk result (self.new ≡ notes_of bound.now (member_count graph.now.graph.members) graph.now.graph.rows) }
+        ensures first { AreFirst bound.now graph.now.graph self.new }
     {
         for x in self.sequences.len()..graph.len() {
             self.note(bound, graph, x)?;

@@ -46,8 +46,8 @@ overflow_add-self c =
     let few = few_payloads c.args.bound.now (member_count g.members) g.rows c.args.x old c.row-row.result.now c.payloads_in.result noted c.payloads_in.ensures in
     omega (arith, few, c.requires.place, c.is_of_graph.ensures.short)
 
-pub returns : goal.returns
-returns c =
+pub returns-clause-noted : goal.returns-clause-noted
+returns-clause-noted c =
     let g = c.args.graph.now.graph in
     let old : RowNotesView = record {
       lasts = c.self.inside.lasts.items;
