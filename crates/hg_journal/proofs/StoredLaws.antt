@@ -1,28 +1,24 @@
--- What a call of a stored node makes of it, and what a stop leaves meanwhile.
-use Rattle.std.proofs.Common.{◌≡◌, ℕ, ◌+◌, ◌^◌, ◌<◌, ◌≤◌, eqb, cond, List, [], ◌∷◌, length, Option, Some, refl, sym, ◌∙◌, ap, subst, arith}
+-- Which node the record of a change leads to.
+use Rattle.std.proofs.Common.{◌≡◌, ℕ, ◌+◌, ◌^◌, ◌<◌, ◌≤◌, eqb, cond, List, [], ◌∷◌, length, Some, sym, ◌∙◌, ap, arith}
 use Rattle.std.specs.Prelude.{slice_get}
-use Rattle.std.specs.Option.{ForSome}
-use Rattle.hg_io.specs.FileView.{FileView}
 use Rattle.hg_model.specs.declared.row.Row.{Row}
 use Rattle.hg_model.specs.Shares.{Share}
 use Rattle.hg_life.specs.Calls.{IsMaking, publish_answer, publish_changes, put_answer, put_changes, make_changes}
 use Rattle.hg_life.specs.History.Change.{Marked}
 use Rattle.hg_life.specs.NodeView.{NodeView, IsNode, node_rows, with_changes}
 use Rattle.hg_life.specs.Signing.{Accepts}
-use Rattle.hg_life.specs.Spelling.{Spells, spelling}
+use Rattle.hg_life.specs.Spelling.{spelling}
 use Rattle.hg_life.specs.declared.answers.MakeAnswer.{MakeAnswer}
 use Rattle.hg_life.specs.declared.answers.MakeAnswer.TheVariants as made
 use Rattle.hg_life.specs.declared.answers.PutAnswer.TheVariants.{Accepted}
-use Rattle.hg_event.proofs.Reading.{AreBytes}
 use Rattle.hg_history.proofs.CallLaws.{other_makes_add_none, other_puts_add_none, with_none}
 use Rattle.hg_node.specs.Puts.{after_put}
 use Rattle.hg_node.specs.Replay.{replay_one}
 use Rattle.hg_node.specs.Replay.StoredChange.{StoredMade, StoredMarked}
-use Rattle.hg_node.specs.ReplayLaws.{MarksReplay, PutsReplay, SpellingsAreShort}
+use Rattle.hg_node.specs.ReplayLaws.{MarksReplay, PutsReplay}
 use Rattle.hg_journal.specs.Journal.{marked_body, marked_in, next_node}
-use Rattle.hg_journal.specs.Stored.{AppendKeeps, AppendStores, IsNear, IsStored, MakesNode, StopsKeep, StopsKeepOne, StoredView, StoresNode}
-use Rattle.hg_journal.proofs.NodeLaws.{accepted_short, changes_few, made_is, marked_body_in, marked_some, next_more, rows_few, took_is}
-use Rattle.hg_journal.proofs.Steps.{gate_in_file, still_keeps, still_near}
+use Rattle.hg_journal.specs.Stored.{IsNear}
+use Rattle.hg_journal.proofs.NodeLaws.{changes_few, made_is, marked_body_in, marked_some, next_more, rows_few, took_is}
 
 module _ {K : Type 0} (accepts : K → Accepts) where
   -- ---- which node a record leads to
@@ -71,80 +67,4 @@ module _ {K : Type 0} (accepts : K → Accepts) where
 
   pub near_next : (v w : NodeView K) (kind : ℕ) (body : List ℕ) (gate next : ℕ) → length body < 65536 → next_node accepts v kind body ≡ Some w → next ≡ gate + 4 + length body
       → IsNear gate v → IsNear next w
-  near_next v w kind body gate next small leads goes near = subst (λ (k : ℕ). IsNear k w) (sym goes) (still_near accepts v w gate kind body small leads near)
-
-  module _ (old : FileView) (s : StoredView K) (v : NodeView K) (gate : ℕ) (there : s.node ≡ Some v) (place : s.gate ≡ gate) (stores : StoresNode accepts old s) where
-    pub stored_here : IsStored accepts old v gate
-    stored_here = subst (λ (k : ℕ). IsStored accepts old v k) place (stores v there)
-
-    pub gate_within : ForSome old.reads (λ bytes. gate < length bytes)
-    gate_within = gate_in_file accepts old v gate stored_here
-
-    module _ (new : FileView) (w : NodeView K) (kind : ℕ) (body : List ℕ) (leads : next_node accepts v kind body ≡ Some w) where
-      pub stored_next : (next : ℕ) → AppendStores accepts kind body old new gate next → (x : NodeView K) → Some w ≡ Some x → IsStored accepts new x next
-      stored_next next appends x is =
-          let same : w ≡ x = cc in
-          subst (λ (y : NodeView K). IsStored accepts new y next) same (appends v w leads stored_here)
-
-      pub stops_next : (comes : NodeView K → NodeView K → Type 0) → AppendKeeps accepts kind body old new gate → comes v w → StopsKeepOne accepts old new s.node comes
-      stops_next comes keeps has x is told =
-          let both : Some v ≡ Some x = sym there ∙ is in
-          let same : v ≡ x = cc in
-          subst (λ (y : NodeView K). (z : NodeView K) × comes y z × StopsKeep accepts old new y z) same (w, has, keeps v w leads stored_here told)
-
-    -- where nothing was written, as no change came
-    pub stored_still : (w : NodeView K) → w ≡ v → (x : NodeView K) → Some w ≡ Some x → IsStored accepts old x gate
-    stored_still w same x is =
-        let new : v ≡ x = cc in
-        subst (λ (y : NodeView K). IsStored accepts old y gate) new stored_here
-
-    pub stops_still : (w : NodeView K) (comes : NodeView K → NodeView K → Type 0) → comes v w → StopsKeepOne accepts old old s.node comes
-    stops_still w comes has x is told =
-        let both : Some v ≡ Some x = sym there ∙ is in
-        let same : v ≡ x = cc in
-        subst (λ (y : NodeView K). (z : NodeView K) × comes y z × StopsKeep accepts old old y z) same (w, has, still_keeps accepts old v w gate stored_here told)
-
-  -- the node that a record leads to is not the one that was there
-  pub is_other : (v w : NodeView K) (kind : ℕ) (body : List ℕ) → next_node accepts v kind body ≡ Some w → (was : Option (NodeView K)) → was ≡ Some v → Some w ≡ was → ⊥
-  is_other v w kind body leads was there stays =
-      let same : w ≡ v = cc in
-      omega (arith, (next_more v w accepts kind body leads).1, ap (λ (x : NodeView K). length x.history) same)
-
-  -- a record that was made is no longer than any
-  pub near_made : (v w : NodeView K) (place : ℕ) (row : Row) (gate next : ℕ) → MadeHere v w place row → next ≤ gate + 65539 → IsNear gate v
-      → (x : NodeView K) → Some w ≡ Some x → IsNear next x
-  near_made v w place row gate next here goes near x is =
-      let same : w ≡ x = cc in
-      let near_w : IsNear next w = omega (arith, goes, near, (next_more v w accepts 2 (spelling row) (made_next v w place row here)).1) in
-      subst (IsNear next) same near_w
-
-  -- the same of the node that is there then
-  pub near_there : (v w : NodeView K) (kind : ℕ) (body : List ℕ) (gate next : ℕ) → length body < 65536 → next_node accepts v kind body ≡ Some w → next ≡ gate + 4 + length body
-      → IsNear gate v → (x : NodeView K) → Some w ≡ Some x → IsNear next x
-  near_there v w kind body gate next small leads goes near x is =
-      let same : w ≡ x = cc in
-      subst (IsNear next) same (near_next v w kind body gate next small leads goes near)
-
-  pub makes_here : (was : Option (NodeView K)) (v w : NodeView K) (others : List (List ℕ)) (time : ℕ) (payload : List ℕ) (answer : MakeAnswer) → was ≡ Some v
-      → IsMaking accepts v others time payload answer w → (x : NodeView K) → was ≡ Some x → MakesNode accepts others time payload answer (Some w) x
-  makes_here was v w others time payload answer there making x is =
-      let both : Some v ≡ Some x = sym there ∙ is in
-      let same : v ≡ x = cc in
-      (w, refl, subst (λ (y : NodeView K). IsMaking accepts y others time payload answer w) same making)
-
-pub accepted_small : {K : Type 0} (accepts : K → Accepts) (v : NodeView K) (bytes : List ℕ) (place : ℕ) → AreBytes bytes → put_answer accepts v bytes ≡ Accepted place → length bytes < 65536
-accepted_small accepts v bytes place fit accepted = omega (arith, accepted_short accepts v bytes place fit accepted)
-
-pub same_body : {K : Type 0} (v : NodeView K) (place : ℕ) (event row : Row) (body : List ℕ) → slice_get (node_rows v) place ≡ Some event → slice_get (node_rows v) place ≡ Some row
-    → body ≡ spelling event → body ≡ spelling row
-same_body v place event row body is also spelled =
-    let both : Some event ≡ Some row = sym is ∙ also in
-    let same : event ≡ row = cc in
-    spelled ∙ ap spelling same
-
--- that a node is there tells which
-pub is_there : {K : Type 0} (w x : NodeView K) → Some w ≡ Some x → x ≡ w
-is_there w x is = cc
-
-pub event_small : (row : Row) (body : List ℕ) → SpellingsAreShort → Spells (spelling row) row → body ≡ spelling row → length body < 65536
-event_small row body law spells is = omega (arith, law (spelling row) row spells, ap length is)
+  near_next v w kind body gate next small leads goes near = omega (arith, near, small, goes, (next_more v w accepts kind body leads).1)

@@ -6,6 +6,8 @@ use Rattle.hg_io.specs.FileView.{FileView}
 use Rattle.hg_model.specs.Stakes.{member_count}
 use Rattle.hg_life.specs.NodeView.{NodeView, Start, node_rows}
 use Rattle.hg_life.specs.Signing.{Accepts}
+use Rattle.hg_node.specs.Puts.{WouldAccept}
+use Rattle.hg_node.specs.Restore.{WouldRestore}
 use Rattle.hg_node.specs.Replay.{StoredChange, new_node, replay_one}
 use Rattle.hg_node.specs.Replay.StoredChange.{StoredTook, StoredMade, StoredMarked}
 use Rattle.hg_journal.specs.Places.{IsAt}
@@ -31,6 +33,11 @@ abbrev pub CanMark : {K : Type 0} → NodeView K → List ℕ → Type 0
 CanMark v body =
     (length body ≡ 12) × (from_be_bytes w32 body ≤ length (node_rows v))
     × (from_be_bytes w32 (drop 4 body) < from_be_bytes w32 (drop 8 body))
+
+-- memory is needed for a record of this kind: its event is accepted, or there can be such marks
+abbrev pub NeedsMemory : {K : Type 0} → (K → Accepts) → NodeView K → ℕ → List ℕ → Type 0
+NeedsMemory accepts v kind body =
+    ((kind ≡ 1) × WouldAccept accepts v body) ⊎ (((kind ≡ 2) × WouldRestore accepts v body) ⊎ ((kind ≡ 3) × CanMark v body))
 
 -- what a record of this kind tells: an event that was taken, one that was made, or marks
 abbrev pub change_in : ℕ → List ℕ → Option StoredChange

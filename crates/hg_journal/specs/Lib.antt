@@ -1,9 +1,11 @@
 pub mod Ahead
+pub mod Batches
 pub mod Faults
 pub mod Journal
 pub mod Opening
 pub mod Places
 pub mod Reading
 pub mod Records
+pub mod Staging
 pub mod Stored
 pub mod Writing

@@ -1,10 +1,13 @@
 -- What opening a journal answers, and what stops leave meanwhile.
-use Rattle.std.specs.Prelude.{◌≡◌, ◌⊎◌, ℕ, ◌≤◌, List, Option, Some, Result, Ok, Err, IsErrOf}
+use Rattle.std.specs.Prelude.{◌≡◌, ◌⊎◌, ℕ, ◌≤◌, List, drop, take, Option, Some, Result, Ok, Err, IsErrOf}
 use Rattle.std.specs.Option.{ForSome}
 use Rattle.hg_io.specs.FileView.{FileView, Leaves, Stays}
 use Rattle.hg_life.specs.NodeView.{NodeView, Start}
 use Rattle.hg_life.specs.Signing.{Accepts}
-use Rattle.hg_journal.specs.Journal.{journal, reading_of}
+use Rattle.hg_node.specs.Replay.{new_node}
+use Rattle.hg_journal.specs.Ahead.{IsRecordAt}
+use Rattle.hg_journal.specs.Journal.{NeedsMemory, head_of, journal, next_node, reading_of}
+use Rattle.hg_journal.specs.Places.{Leads}
 use Rattle.hg_journal.specs.Reading as R
 use Rattle.hg_journal.specs.Writing.{AnewCases}
 use Rattle.hg_journal.specs.declared.errors.OpenError.{OpenError}
@@ -77,3 +80,13 @@ Finds accepts start v (Err e) file = IsWrong accepts start file e
 abbrev pub Opens : {K T : Type 0} → (K → Accepts) → Start K → (T → Option (NodeView K)) → Result T OpenError → List ℕ → Type 0
 Opens accepts start node_of (Ok s) file = journal accepts start file ≡ node_of s
 Opens accepts start node_of (Err e) file = IsWrong accepts start file e
+
+-- records lead to a node, and memory is needed for the one that comes next in the file
+pub record NeedsMemoryIn {K : Type 0} (accepts : K → Accepts) (start : Start K) (file : List ℕ) : Type 0 where
+  pub node : NodeView K
+  pub at : ℕ
+  pub kind : ℕ
+  pub body : List ℕ
+  pub leads : Leads (next_node accepts) (new_node start) (head_of start) (take at file) node
+  pub here : IsRecordAt (drop at file) kind body
+  pub needs : NeedsMemory accepts node kind body

@@ -1,27 +1,35 @@
 -- A node whose changes are kept in a journal.
-use Rattle.std.specs.Prelude.{◌≡◌, ◌⊎◌, ℕ, ◌+◌, ◌*◌, ◌≤◌, List, length, slice_get, Option, None, Some, IsSome}
+use Rattle.std.specs.Prelude.{◌≡◌, ◌⊎◌, ℕ, ◌+◌, ◌*◌, ◌≤◌, List, length, take, Option, None, Some, IsSome}
 use Rattle.std.specs.Option.{ForSome}
 use Rattle.hg_io.specs.FileView.{FileView, IsSynced, Leaves}
 use Rattle.hg_model.specs.Shares.{Share}
-use Rattle.hg_life.specs.NodeView.{NodeView, node_rows, with_changes}
+use Rattle.hg_life.specs.NodeView.{NodeView, with_changes}
 use Rattle.hg_life.specs.Signing.{Accepts}
-use Rattle.hg_life.specs.Spelling.{spelling}
 use Rattle.hg_life.specs.declared.answers.MakeAnswer.{MakeAnswer}
 use Rattle.hg_life.specs.Calls.{IsMaking, make_draft, publish_changes}
 use Rattle.hg_node.specs.Puts.{after_put}
-use Rattle.hg_journal.specs.Journal.{JournalEndsAt, Keeps, KeepsEither, next_node}
+use Rattle.hg_node.specs.Restore.{after_restore}
+use Rattle.hg_journal.specs.Journal.{JournalEndsAt, Keeps, KeepsEither}
 use Rattle.hg_journal.specs.Writing.{LeavesOnly}
 
--- the end of a journal: its file's name, and the place of the closed gate
+-- the end of a journal: its file's name, the place of the closed gate, and the records that are to be stored there
 pub record TailView : Type 0 where
   pub name : List ℕ
   pub gate : ℕ
+  pub records : List ℕ
 
--- the node, or none once the disk has failed, and the end of its journal
+-- the node, or none once the disk has failed; the one whose journal the file is, which lacks what is staged; how many bytes the
+-- records of that have; and the end of the journal
 pub record StoredView (K : Type 0) : Type 0 where
   pub node : Option (NodeView K)
+  pub written : Option (NodeView K)
+  pub pending : ℕ
   pub name : List ℕ
   pub gate : ℕ
+
+-- what a node was after so many of its changes
+abbrev pub node_at : {K : Type 0} → ℕ → NodeView K → NodeView K
+node_at n v = record { start = v.start; history = take n v.history }
 
 -- the file is the node's journal, up to a closed gate at this place, and a stop leaves it as it reads; where the disk tells it
 pub record IsStored {K : Type 0} (accepts : K → Accepts) (file : FileView) (v : NodeView K) (gate : ℕ) : Type 0 where
@@ -29,9 +37,15 @@ pub record IsStored {K : Type 0} (accepts : K → Accepts) (file : FileView) (v 
   pub keeps : ForSome file.reads (Keeps accepts v)
   pub place : ForSome file.reads (JournalEndsAt accepts v.start v gate)
 
--- so it is of the node that is there
-abbrev pub StoresNode : {K : Type 0} → (K → Accepts) → FileView → StoredView K → Type 0
-StoresNode accepts file stored = ForSome stored.node (λ v. IsStored accepts file v stored.gate)
+-- so it is of the node that is written
+abbrev pub StoresWritten : {K : Type 0} → (K → Accepts) → FileView → StoredView K → Type 0
+StoresWritten accepts file stored = ForSome stored.written (λ v. IsStored accepts file v stored.gate)
+
+-- so it is of the node that is there, and nothing is staged
+pub record StoresNode {K : Type 0} (accepts : K → Accepts) (file : FileView) (stored : StoredView K) : Type 0 where
+  pub all : stored.written ≡ stored.node
+  pub none : stored.pending ≡ 0
+  pub kept : ForSome stored.node (λ v. IsStored accepts file v stored.gate)
 
 -- a closed gate behind so many changes is not further than this
 abbrev pub IsNear : {K : Type 0} → ℕ → NodeView K → Type 0
@@ -53,6 +67,10 @@ StopsKeepOne {K} accepts old new node comes =
 -- .. by these bytes that are put
 abbrev pub StopsKeepPut : {K : Type 0} → (K → Accepts) → List ℕ → FileView → FileView → Option (NodeView K) → Type 0
 StopsKeepPut accepts bytes old new node = StopsKeepOne accepts old new node (λ v w. w ≡ after_put accepts v bytes)
+
+-- .. by these bytes that come back
+abbrev pub StopsKeepRestored : {K : Type 0} → (K → Accepts) → List ℕ → FileView → FileView → Option (NodeView K) → Type 0
+StopsKeepRestored accepts bytes old new node = StopsKeepOne accepts old new node (λ v w. w ≡ after_restore accepts v bytes)
 
 -- the node once what this share decides in so many rows is marked
 abbrev pub after_marks : {K : Type 0} → NodeView K → ℕ → Share → NodeView K
@@ -84,25 +102,3 @@ abbrev pub MakesNode : {K : Type 0} → (K → Accepts) → List (List ℕ) → 
     → MakeAnswer → Option (NodeView K) → NodeView K → Type 0
 MakesNode {K} accepts others time payload a node v =
     (w : NodeView K) × (node ≡ Some w) × IsMaking accepts v others time payload a w
-
--- ---- what appending a record does
-
--- where a record leads from v to w, appending it makes of a journal of v one of w
-abbrev pub AppendStores : {K : Type 0} → (K → Accepts) → ℕ → List ℕ → FileView → FileView → ℕ → ℕ → Type 0
-AppendStores {K} accepts kind body old new gate next =
-    (v w : NodeView K) → next_node accepts v kind body ≡ Some w → IsStored accepts old v gate → IsStored accepts new w next
-
--- .. and a stop meanwhile leaves one of them
-abbrev pub AppendKeeps : {K : Type 0} → (K → Accepts) → ℕ → List ℕ → FileView → FileView → ℕ → Type 0
-AppendKeeps {K} accepts kind body old new gate =
-    (v w : NodeView K) → next_node accepts v kind body ≡ Some w
-    → IsStored accepts old v gate → IsSome old.reads → StopsKeep accepts old new v w
-
--- so it is of the record of the event at this place that the node has made
-abbrev pub MadeStores : {K : Type 0} → (K → Accepts) → NodeView K → ℕ → FileView → FileView → ℕ → ℕ → Type 0
-MadeStores accepts node place old new gate next =
-    ForSome (slice_get (node_rows node) place) (λ row. AppendStores accepts 2 (spelling row) old new gate next)
-
-abbrev pub MadeKeeps : {K : Type 0} → (K → Accepts) → NodeView K → ℕ → FileView → FileView → ℕ → Type 0
-MadeKeeps accepts node place old new gate =
-    ForSome (slice_get (node_rows node) place) (λ row. AppendKeeps accepts 2 (spelling row) old new gate)

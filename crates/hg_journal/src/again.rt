@@ -4,7 +4,7 @@ ghost use Rattle.hg_life.specs.NodeView.{node_rows};
 ghost use Rattle.hg_node.specs.Puts.{WouldAccept};
 ghost use Rattle.hg_node.specs.Restore.{WouldRestore};
 ghost use Rattle.hg_node.specs.Replay.StoredChange.{StoredMade, StoredMarked, StoredTook};
-ghost use Rattle.hg_journal.specs.Journal.{CanMark, ComesAgain, marked_body, marked_in, next_node, node_if};
+ghost use Rattle.hg_journal.specs.Journal.{CanMark, ComesAgain, NeedsMemory, marked_body, marked_in, next_node, node_if};
 
 use hg_model::{Memory, Share};
 use hg_node::Node;
@@ -103,7 +103,8 @@ pub(crate) fn come_again<V: Signer>(
     kind: u8,
     body: &[u8],
 ) -> Result<bool, Memory>
-    ensures { IfOk result (λ came. next_node V.accepts node.old kind body.now ≡ node_if came node.new) }
+    ensures came { IfOk result (λ came. next_node V.accepts node.old kind body.now ≡ node_if came node.new) }
+    ensures free { OnErr result (NeedsMemory V.accepts node.old kind body.now) }
 {
     match kind {
         TOOK => put_again(node, body),

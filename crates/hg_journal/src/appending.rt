@@ -1,26 +1,32 @@
-ghost use Rattle.std.specs.Prelude.{◌≡◌, ◌<◌, ◌≤◌, ◌+◌, ◌^◌, ◌++◌, ◌∷◌, [], ℕ, List, OnErr, OnOk, is_some, length, vec_capacity};
+ghost use Rattle.std.specs.Prelude.{◌≡◌, ◌<◌, ◌≤◌, ◌+◌, ◌^◌, ℕ, List, OnErr, OnOk, is_some, length, vec_capacity};
 ghost use Rattle.std.specs.Option.{ForSome};
 ghost use Rattle.hg_io.specs.Faults.{Rose};
 ghost use Rattle.hg_io.specs.FileView.{IsSynced};
+ghost use Rattle.hg_journal.specs.Batches.{joined};
 ghost use Rattle.hg_journal.specs.Records.{spelled};
 ghost use Rattle.hg_journal.specs.Writing.{EndsCutShort, IsAppended, LeavesCutShort};
+ghost use Rattle.hg_journal.specs.Faults.{DiskFrame};
 
 use hg_io::{Disk, Failed, put_down};
 
-/// Spells a record, and a closed gate behind it, in the buffer. Takes no memory.
+/// An open gate.
+const OPEN: u8 = 1;
+
+/// Spells a record behind those in the buffer, and an open gate between them. Takes no memory.
 pub(crate) fn spell(buffer: &mut Vec<u8>, kind: u8, body: &[u8])
     requires small { length body.now < 65536 }
-    requires room { length body.now + 4 ≤ vec_capacity buffer.old }
-    ensures piece { buffer.new.items ≡ spelled kind body.now ++ 0 ∷ [] }
+    requires room { length buffer.old.items + 4 + length body.now ≤ vec_capacity buffer.old }
+    ensures records { buffer.new.items ≡ joined buffer.old.items (spelled kind body.now) }
     ensures room { vec_capacity buffer.old ≤ vec_capacity buffer.new }
 {
-    buffer.clear();
+    if !buffer.is_empty() {
+        buffer.push(OPEN).unwrap();
+    }
     buffer.push(kind).unwrap();
     buffer
         .extend_from_slice(&(body.len() as u16).to_be_bytes())
         .unwrap();
     buffer.extend_from_slice(body).unwrap();
-    buffer.push(0).unwrap();
 }
 
 /// Writes a piece behind the closed gate at this place of a synced file, waits until it is kept, and opens the gate.
@@ -36,14 +42,12 @@ pub(crate) fn append<D: Disk>(
     requires synced { IsSynced (D.file disk.old) }
     ensures appended { OnOk result (IsAppended gate piece.now (D.file disk.old) (D.file disk.new)) }
     ensures synced { OnOk result (IsSynced (D.file disk.new)) }
-    ensures shown { is_some (D.file disk.new).reads ≡ is_some (D.file disk.old).reads }
     ensures now { EndsCutShort gate piece.now (D.file disk.old) (D.file disk.new) }
     ensures leaves { LeavesCutShort gate piece.now (D.file disk.old) (D.file disk.new) }
-    ensures started { D.At disk.new name.now }
+    ensures frame { DiskFrame D.Disk name.now disk.old disk.new }
     ensures cause { OnErr result (Rose (D.faults disk.old name.now) (D.faults disk.new name.now)) }
-    ensures counts { (other : List ℕ) → D.faults disk.old other ≤ D.faults disk.new other }
 {
     put_down(disk, name, gate + 1, piece)?;
-    put_down(disk, name, gate, &[1])?;
+    put_down(disk, name, gate, &[OPEN])?;
     Ok(())
 }

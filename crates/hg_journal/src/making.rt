@@ -4,6 +4,7 @@ ghost use Rattle.std.specs.Option.{ForSome};
 ghost use Rattle.hg_io.specs.Faults.{Rose};
 ghost use Rattle.hg_io.specs.FileView.{IsSynced};
 ghost use Rattle.hg_journal.specs.Writing.{AnewCases, EndsEmpty, IsBegun, IsOnlyBegun, LeavesEmpty, empty_file};
+ghost use Rattle.hg_journal.specs.Faults.{DiskFrame};
 
 use hg_io::{Disk, Failed, put_down};
 
@@ -15,12 +16,10 @@ fn close_first<D: Disk>(disk: &mut D, name: &str, head: &[u8; 8], begun: bool) -
     requires begun { ForSome (D.file disk.old).reads (λ bytes. Decides begun (IsBegun bytes)) }
     ensures begun { OnOk result (ForSome (D.file disk.new).reads IsOnlyBegun) }
     ensures synced { OnOk result (IsSynced (D.file disk.new)) }
-    ensures shown { is_some (D.file disk.new).reads ≡ is_some (D.file disk.old).reads }
     ensures now { EndsEmpty head.now (D.file disk.old) (D.file disk.new) }
     ensures leaves { LeavesEmpty head.now (D.file disk.old) (D.file disk.new) }
-    ensures started { D.At disk.new name.now }
+    ensures frame { DiskFrame D.Disk name.now disk.old disk.new }
     ensures cause { OnErr result (Rose (D.faults disk.old name.now) (D.faults disk.new name.now)) }
-    ensures counts { (other : List ℕ) → D.faults disk.old other ≤ D.faults disk.new other }
 {
     if begun {
         return Ok(());
@@ -44,12 +43,10 @@ fn write_head<D: Disk>(disk: &mut D, name: &str, head: &[u8; 8]) -> Result<(), F
     requires begun { ForSome (D.file disk.old).reads IsOnlyBegun }
     ensures made { OnOk result (ForSome (D.file disk.new).reads (λ bytes. bytes ≡ empty_file head.now)) }
     ensures synced { OnOk result (IsSynced (D.file disk.new)) }
-    ensures shown { is_some (D.file disk.new).reads ≡ is_some (D.file disk.old).reads }
     ensures now { EndsEmpty head.now (D.file disk.old) (D.file disk.new) }
     ensures leaves { LeavesEmpty head.now (D.file disk.old) (D.file disk.new) }
-    ensures started { D.At disk.new name.now }
+    ensures frame { DiskFrame D.Disk name.now disk.old disk.new }
     ensures cause { OnErr result (Rose (D.faults disk.old name.now) (D.faults disk.new name.now)) }
-    ensures counts { (other : List ℕ) → D.faults disk.old other ≤ D.faults disk.new other }
 {
     let piece = closed_head(head);
     put_down(disk, name, 1, &piece)?;
@@ -70,12 +67,10 @@ pub(crate) fn make_anew<D: Disk>(
     requires begun { ForSome (D.file disk.old).reads (λ bytes. Decides begun (IsBegun bytes)) }
     ensures made { OnOk result (ForSome (D.file disk.new).reads (λ bytes. bytes ≡ empty_file head.now)) }
     ensures synced { OnOk result (IsSynced (D.file disk.new)) }
-    ensures shown { is_some (D.file disk.new).reads ≡ is_some (D.file disk.old).reads }
     ensures now { EndsEmpty head.now (D.file disk.old) (D.file disk.new) }
     ensures leaves { LeavesEmpty head.now (D.file disk.old) (D.file disk.new) }
-    ensures started { D.At disk.new name.now }
+    ensures frame { DiskFrame D.Disk name.now disk.old disk.new }
     ensures cause { OnErr result (Rose (D.faults disk.old name.now) (D.faults disk.new name.now)) }
-    ensures counts { (other : List ℕ) → D.faults disk.old other ≤ D.faults disk.new other }
 {
     close_first(disk, name, head, begun)?;
     write_head(disk, name, head)?;

@@ -1,12 +1,12 @@
-ghost use Rattle.std.specs.Prelude.{◌≡◌, ◌<◌, ◌≤◌, ◌++◌, ℕ, List, IfErr, IfOk, IsSome, OnOk, codes, is_some, length};
+ghost use Rattle.std.specs.Prelude.{◌≡◌, ◌<◌, ◌≤◌, ◌++◌, ℕ, List, IfErr, IfOk, IsErrOf, IsSome, OnOk, codes, is_some, length};
 ghost use Rattle.std.specs.Int.{to_be_bytes, w16};
 ghost use Rattle.std.specs.Option.{ForSome};
 ghost use Rattle.hg_io.specs.FileView.{IsSynced};
 ghost use Rattle.hg_life.specs.NodeView.{start_of};
 ghost use Rattle.hg_node.specs.Replay.{new_node};
-ghost use Rattle.hg_journal.specs.Faults.{IsFaultCounted};
+ghost use Rattle.hg_journal.specs.Faults.{IsFaultCounted, DiskFrame};
 ghost use Rattle.hg_journal.specs.Journal.{head_of};
-ghost use Rattle.hg_journal.specs.Opening.{Finds, LeavesJournal, Opens, StaysUnlessDisk, WritesOnlyAnew};
+ghost use Rattle.hg_journal.specs.Opening.{Finds, LeavesJournal, NeedsMemoryIn, Opens, StaysUnlessDisk, WritesOnlyAnew};
 ghost use Rattle.hg_journal.specs.Stored.{IsNear, IsStored, StoresNode};
 
 use crate::errors::OpenError;
@@ -52,14 +52,13 @@ pub(crate) fn gate_of<V: Signer, D: Disk>(
     ensures start { OnOk result (node.new.start ≡ node.old.start) }
     ensures near { IfOk result (λ gate. IsNear gate node.new) }
     ensures stored { IfOk result (λ gate. IsStored V.accepts (D.file disk.new) node.new gate) }
-    ensures shown { is_some (D.file disk.new).reads ≡ is_some (D.file disk.old).reads }
     ensures finds { ForSome (D.file disk.old).reads (Finds V.accepts node.old.start node.new result) }
+    ensures free { IsErrOf result OpenError.Memory → ForSome (D.file disk.old).reads (NeedsMemoryIn V.accepts node.old.start) }
     ensures leaves { LeavesJournal V.accepts node.old.start (D.file disk.old) (D.file disk.new) }
     ensures untouched { WritesOnlyAnew head.now (D.file disk.old) (D.file disk.new) }
     ensures refused { IfErr result (λ e. StaysUnlessDisk e (D.file disk.old) (D.file disk.new)) }
-    ensures started { D.At disk.new name.now }
+    ensures frame { DiskFrame D.Disk name.now disk.old disk.new }
     ensures cause { IsFaultCounted result OpenError.Disk (D.faults disk.old) (D.faults disk.new) name.now }
-    ensures counts { (other : List ℕ) → D.faults disk.old other ≤ D.faults disk.new other }
 {
     let mut front = [0; FRONT];
     let count = fill_from(disk, name, 0, &mut front)?;
@@ -90,14 +89,12 @@ fn open_synced<V: Signer + Drop, D: Disk>(
     ensures begins { IfOk result (λ s. ForSome s.node (λ v. v.start ≡ start_of members.now own keys)) }
     ensures name { IfOk result (λ s. s.name ≡ name.now) }
     ensures stored { IfOk result (StoresNode V.accepts (D.file disk.new)) }
-    ensures shown { is_some (D.file disk.new).reads ≡ is_some (D.file disk.old).reads }
     ensures opens { ForSome (D.file disk.old).reads (Opens V.accepts (start_of members.now own keys) (λ s. s.node) result) }
     ensures leaves { LeavesJournal V.accepts (start_of members.now own keys) (D.file disk.old) (D.file disk.new) }
     ensures untouched { WritesOnlyAnew (head_of (start_of members.now own keys)) (D.file disk.old) (D.file disk.new) }
     ensures refused { IfErr result (λ e. StaysUnlessDisk e (D.file disk.old) (D.file disk.new)) }
-    ensures started { D.At disk.new name.now }
+    ensures frame { DiskFrame D.Disk name.now disk.old disk.new }
     ensures cause { IsFaultCounted result OpenError.Disk (D.faults disk.old) (D.faults disk.new) name.now }
-    ensures counts { (other : List ℕ) → D.faults disk.old other ≤ D.faults disk.new other }
 {
     let head = head_bytes(members.count() as u16, own);
     let mut node = Node::new(alloc, members, own, keys)?;

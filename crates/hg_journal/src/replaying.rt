@@ -1,10 +1,10 @@
-ghost use Rattle.std.specs.Prelude.{◌≡◌, ◌≤◌, ◌∷◌, [], ℕ, List, IfOk, OnOk, length, take};
+ghost use Rattle.std.specs.Prelude.{◌≡◌, ◌≤◌, ◌∷◌, [], ℕ, List, IfOk, IsErrOf, OnOk, length, take};
 ghost use Rattle.std.specs.Option.{ForSome};
 ghost use Rattle.hg_io.specs.FileView.{Stays};
 ghost use Rattle.hg_node.specs.Replay.{new_node};
 ghost use Rattle.hg_journal.specs.Faults.{IsFaultCounted};
 ghost use Rattle.hg_journal.specs.Journal.{FileEndsAt, head_of};
-ghost use Rattle.hg_journal.specs.Opening.{Finds};
+ghost use Rattle.hg_journal.specs.Opening.{Finds, NeedsMemoryIn};
 ghost use Rattle.hg_journal.specs.Stored.{IsNear};
 
 use crate::again::come_again;
@@ -30,6 +30,7 @@ pub(crate) fn replay<V: Signer, D: Disk>(
     ensures near { IfOk result (λ gate. IsNear gate node.new) }
     ensures place { IfOk result (FileEndsAt V.accepts node.old.start node.new (D.file disk.old)) }
     ensures finds { ForSome (D.file disk.old).reads (Finds V.accepts node.old.start node.new result) }
+    ensures free { IsErrOf result OpenError.Memory → ForSome (D.file disk.old).reads (NeedsMemoryIn V.accepts node.old.start) }
     ensures stays { Stays (D.file disk.old) (D.file disk.new) }
     ensures started { D.At disk.new name.now }
     ensures cause { IsFaultCounted result OpenError.Disk (D.faults disk.old) (D.faults disk.new) name.now }

@@ -93,7 +93,7 @@ module _ {K : Type 0} (accepts : K → Accepts) (start : Start K) where
       let v = some_value s.node there in
       let done = keeps v.0 v.1 in
       let w = done.0 in
-      let stored = stores w done.1 in
+      let stored = stores.kept w done.1 in
       let same : w.start ≡ start = kept_start members events time v.0 w kept done.2 ∙ begins v.0 v.1 in (
         v.0,
         w,

@@ -1,8 +1,9 @@
 -- The nodes on the way through the work.
-use Rattle.std.proofs.Common.{◌≡◌, inl, inr, ℕ, ◌+◌, ◌<◌, ◌≤◌, ◌^◌, List, [], ◌∷◌, take, length, get_or, fold, is_some, Option, Some, None, refl, sym, ◌∙◌, ap, ap₂, subst}
-use Rattle.std.proofs.lemmas.List.Sums.{fold_more}
+use Rattle.std.proofs.Common.{◌≡◌, inl, inr, ℕ, ◌+◌, ◌<◌, ◌≤◌, ◌^◌, List, [], ◌∷◌, ◌++◌, take, drop, length, fold, is_some, Option, Some, None, refl, sym, ◌∙◌, ap, ap₂, subst, arith}
+use Rattle.std.proofs.lemmas.List.{drop-take, take-append-drop, take-take}
+use Rattle.std.proofs.lemmas.List.Sums.{fold-append, fold_push}
 use Rattle.std.proofs.lemmas.Option.{slice_get_within}
-use Rattle.std.specs.Prelude.{IsSome}
+use Rattle.std.specs.Prelude.{IsErrOf, IsSome, Result, Ok, Err}
 use Rattle.std.specs.Option.{ForSome}
 use Rattle.hg_io.specs.FileView.{FileView}
 use Rattle.hg_model.specs.declared.row.Row.{Row}
@@ -28,13 +29,26 @@ use Rattle.hg_outcome.specs.Ledger.{block_of, marked_block}
 use Rattle.hg_play.specs.Lines.{kept_block}
 use Rattle.hg_play.specs.Outcomes.{kept_outcome}
 use Rattle.hg_play.specs.Sites.{IsMadeWith}
-use Rattle.hg_journal.specs.Stored.{ComesOfMaking, MakesNode, StopsKeepMaking, StopsKeepMarks, StopsKeepPut, StoredView, StoresNode}
+use Rattle.hg_life.specs.declared.answers.PutAnswer.{PutAnswer}
+use Rattle.hg_journal.specs.Staging as staging
+use Rattle.hg_journal.specs.Staging.{PutsFront, StopsKeepPuts}
+use Rattle.hg_journal.specs.Stored.{ComesOfMaking, MakesNode, StopsKeepMaking, StopsKeepMarks, StoredView, StoresNode}
 use Rattle.hg_keep.specs.declared.kept.PutCounts.{PutCounts}
 use Rattle.hg_keep.specs.declared.kept.KeepReport.{KeepReport}
 use Rattle.hg_keep.specs.declared.kept.Making.{Making}
 use Rattle.hg_keep.specs.Keeping.{HasRow, IsMadeSome, IsMadeWithOf, IsOnTheWay, IsPutSome, IsSettledSome, IsTurn, KeptOf, MakesAt, MakesOf, PutsAll, PutsSome, SettlesOf, TurnOf, counted, no_counts, put_one, puts, settled, told_of}
 use Rattle.hg_keep.specs.Stops.{StopsLeave, StopsLeaveOf}
 use Rattle.hg_keep.proofs.StopLaws.{leaves_either, leaves_on, leaves_still, leaves_wider, some_is, some_value, told_still}
+
+-- a result has one error at most
+pub no_other_error : {T E : Type 0} (r : Result T E) (d e : E) → (d ≡ e → ⊥) → IsErrOf r d → IsErrOf r e → ⊥
+no_other_error {T} {E} r d e other is also =
+    let both : (let q : Result T E = Err d in q) ≡ Err e = sym is ∙ also in
+    let same : d ≡ e = cc in
+    other same
+
+pub ok_no_error : {T E : Type 0} (r : Result T E) (x : T) (e : E) → r ≡ Ok x → IsErrOf r e → ⊥
+ok_no_error r x e is of = absurd cc
 
 module _ {K : Type 0} (accepts : K → Accepts) where
   puts_start_from : (v : NodeView K × PutCounts) (events : List (List ℕ)) → (fold (put_one accepts) v events).0.start ≡ v.0.start
@@ -58,46 +72,75 @@ module _ {K : Type 0} (accepts : K → Accepts) where
   pub puts_none : (node : Option (NodeView K)) → PutsAll accepts [] node node no_counts
   puts_none node v is = (is, refl)
 
-  -- one event more of these
-  pub puts_more : (first : Option (NodeView K)) (events : List (List ℕ)) (i : ℕ) (bytes : List ℕ) (now next : Option (NodeView K)) (counts more : PutCounts) →
-      i < length events → bytes ≡ get_or events i bytes → IsSome now → PutsAll accepts (take i events) first now counts →
-      ForSome now (λ v. (next ≡ Some (after_put accepts v bytes)) × (more ≡ counted counts (put_answer accepts v bytes))) →
-      PutsAll accepts (take (i + 1) events) first next more
-  puts_more first events i bytes now next counts more within at there so_far step v is =
-      let here = so_far v is in
-      let last : fold (put_one accepts) (v, no_counts) (take (i + 1) events) ≡ put_one accepts (fold (put_one accepts) (v, no_counts) (take i events)) bytes =
-      fold_more (put_one accepts) (v, no_counts) events i bytes within ∙ ap (put_one accepts (fold (put_one accepts) (v, no_counts) (take i events))) (sym at) in
-      let one = step (puts accepts v (take i events)).0 here.0 in (
-        one.0 ∙ ap (λ (x : NodeView K × PutCounts). Some x.0) (sym last),
-        one.1 ∙ ap (λ (c : PutCounts). counted c (put_answer accepts (puts accepts v (take i events)).0 bytes)) here.1 ∙ ap (λ (x : NodeView K × PutCounts). x.1) (sym last),
-      )
-
-  -- .. or nothing more
-  pub puts_some : (first : Option (NodeView K)) (events : List (List ℕ)) (i : ℕ) (now next : StoredView K) (counts : PutCounts) → PutsAll accepts (take i events) first now.node counts → next ≡ now
-      → PutsSome accepts events first next.node
-  puts_some first events i now next counts so_far same v is = ((puts accepts v (take i events)).0, ap (λ (s : StoredView K). s.node) same ∙ (so_far v is).0, (i, refl))
-
-  pub still_there : (now next : Option (NodeView K)) (bytes : List ℕ) → IsSome now → ForSome now (λ v. next ≡ Some (after_put accepts v bytes)) → IsSome next
-  still_there None next bytes there step = absurd cc
-  still_there (Some v) next bytes there step = subst (λ (o : Option (NodeView K)). IsSome o) (sym (step v refl)) refl
-
   -- the nodes that a stop leaves before any event is put
   pub stops_none : (file : FileView) (s : StoredView K) (events : List (List ℕ)) → StoresNode accepts file s → StopsLeaveOf accepts (IsPutSome accepts events) s.node file file
-  stops_none file s events stores v is told = leaves_still accepts v.start (IsPutSome accepts events v) file v s.gate refl (0, refl) (stores v is) told
+  stops_none file s events stores v is told = leaves_still accepts v.start (IsPutSome accepts events v) file v s.gate refl (0, refl) (stores.kept v is) told
 
-  -- .. and while one more is put
-  pub stops_more : (first : Option (NodeView K)) (events : List (List ℕ)) (i : ℕ) (bytes : List ℕ) (now : Option (NodeView K)) (counts : PutCounts) (a b c : FileView) →
-      i < length events → bytes ≡ get_or events i bytes → PutsAll accepts (take i events) first now counts → (is_some b.reads ≡ is_some a.reads) →
-      StopsLeaveOf accepts (IsPutSome accepts events) first a b → StopsKeepPut accepts bytes b c now → StopsLeaveOf accepts (IsPutSome accepts events) first a c
-  stops_more first events i bytes now counts a b c within at so_far shown before step v is told =
-      let so = puts accepts v (take i events) in
-      let keeps = step so.0 (so_far v is).0 (told_still a.reads b.reads shown told) in
-      let last : (puts accepts v (take (i + 1) events)).0 ≡ after_put accepts so.0 bytes =
-      ap (λ (x : NodeView K × PutCounts). x.0)
-      (fold_more (put_one accepts) (v, no_counts) events i bytes within ∙ ap (put_one accepts (fold (put_one accepts) (v, no_counts) (take i events))) (sym at)) in
-      leaves_on accepts v.start (IsPutSome accepts events v) a b c (before v is told)
-      (leaves_either accepts v.start (IsPutSome accepts events v) b c so.0 keeps.0 (puts_start v (take i events))
-      (ap (λ (x : NodeView K). x.start) keeps.1 ∙ puts_start v (take i events)) (i, refl) (i + 1, keeps.1 ∙ sym last) keeps.2)
+  -- ---- putting part by part
+
+  -- a node with these counts and those of what was answered
+  abbrev with_counts : PutCounts → NodeView K × List PutAnswer → NodeView K × PutCounts
+  with_counts c so_far = (so_far.0, fold counted c so_far.1)
+
+  counts_answers : (c : PutCounts) (events : List (List ℕ)) (w : NodeView K) (answers : List PutAnswer)
+      → fold (put_one accepts) (w, fold counted c answers) events ≡ with_counts c (fold (staging.put_one accepts) (w, answers) events)
+  counts_answers c [] w answers = refl
+  counts_answers c (bytes ∷ events) w answers =
+      ap (λ (k : PutCounts). fold (put_one accepts) (after_put accepts w bytes, k) events) (sym (fold_push counted c answers (put_answer accepts w bytes)))
+      ∙ counts_answers c events (after_put accepts w bytes) (answers ++ put_answer accepts w bytes ∷ [])
+
+  take_sum : (n m : ℕ) (xs : List (List ℕ)) → take (n + m) xs ≡ take n xs ++ take m (drop n xs)
+  take_sum n m xs =
+      let parts = take-append-drop n (take (n + m) xs) in
+      sym (rw (take-take n (n + m) xs (omega arith), drop-take n m xs) at parts)
+
+  -- i first events are put, and then n of those behind them
+  puts_sum : (v : NodeView K) (events : List (List ℕ)) (i n : ℕ)
+      → puts accepts v (take (i + n) events) ≡ with_counts (puts accepts v (take i events)).1 (staging.puts accepts (puts accepts v (take i events)).0 (take n (drop i events)))
+  puts_sum v events i n =
+      ap (fold (put_one accepts) (v, no_counts)) (take_sum i n events)
+      ∙ fold-append (put_one accepts) (v, no_counts) (take i events) (take n (drop i events))
+      ∙ counts_answers (puts accepts v (take i events)).1 (take n (drop i events)) (puts accepts v (take i events)).0 []
+
+  module _ (first : Option (NodeView K)) (events rest : List (List ℕ)) (i : ℕ) (now : Option (NodeView K)) (counts : PutCounts) (left : rest ≡ drop i events) (so_far : PutsAll accepts (take i events) first now counts) where
+    pub puts_part : (next : Option (NodeView K)) (answers : List PutAnswer) (more : PutCounts) → PutsFront accepts now rest answers next → more ≡ fold counted counts answers
+        → PutsAll accepts (take (i + length answers) events) first next more
+    puts_part next answers more front more_is v is =
+        let here = so_far v is in
+        let one = front (puts accepts v (take i events)).0 here.0 in
+        let goes = puts_sum v events i (length answers) in
+        let same : take (length answers) (drop i events) ≡ take (length answers) rest = ap (take (length answers)) (sym left) in
+        let goes_left = rw same at goes in (
+          one.1 ∙ ap (λ (x : NodeView K). Some x) (one.2.node ∙ ap (λ (x : NodeView K × PutCounts). x.0) (sym goes_left)),
+          more_is ∙ ap₂ (λ (c : PutCounts) (given : List PutAnswer). fold counted c given) here.1 one.2.given ∙ ap (λ (x : NodeView K × PutCounts). x.1) (sym goes_left),
+        )
+
+    -- .. and no more, where memory ran out
+    pub puts_part_some : (next : Option (NodeView K)) (answers : List PutAnswer) → PutsFront accepts now rest answers next → PutsSome accepts events first next
+    puts_part_some next answers front v is =
+        let all = puts_part next answers (fold counted counts answers) front refl v is in
+        ((puts accepts v (take (i + length answers) events)).0, all.0, (i + length answers, refl))
+
+    -- the nodes that a stop leaves while a part is stored
+    pub stops_part : (then : Option (NodeView K)) (a b c : FileView) → is_some b.reads ≡ is_some a.reads → StopsLeaveOf accepts (IsPutSome accepts events) first a b
+        → StopsKeepPuts accepts rest b c now then → StopsLeaveOf accepts (IsPutSome accepts events) first a c
+    stops_part then a b c shown before step v is told =
+        let so = puts accepts v (take i events) in
+        let keeps = step so.0 (so_far v is).0 (told_still a.reads b.reads shown told) in
+        let n = keeps.1.0.0 in
+        let goes = puts_sum v events i n in
+        let last : keeps.0 ≡ (puts accepts v (take (i + n) events)).0 =
+        keeps.1.0.2 ∙ ap (λ (l : List (List ℕ)). (staging.puts accepts so.0 (take n l)).0) left ∙ ap (λ (x : NodeView K × PutCounts). x.0) (sym goes) in
+        leaves_on accepts v.start (IsPutSome accepts events v) a b c (before v is told)
+        (leaves_either accepts v.start (IsPutSome accepts events v) b c so.0 keeps.0 (puts_start v (take i events))
+        (ap (λ (x : NodeView K). x.start) last ∙ puts_start v (take (i + n) events)) (i, refl) (i + n, last) keeps.2)
+
+  pub part_there : (old : Option (NodeView K)) (events : List (List ℕ)) (answers : List PutAnswer) (new : Option (NodeView K)) → IsSome old → PutsFront accepts old events answers new
+      → IsSome new × (length answers ≤ length events)
+  part_there None events answers new there front = absurd cc
+  part_there (Some v) events answers new there front =
+      let one = front v refl in
+      (subst (λ (o : Option (NodeView K)). IsSome o) (sym one.1) refl, one.2.within)
 
   -- ---- making an event
 
@@ -146,7 +189,7 @@ module _ {K : Type 0} (accepts : K → Accepts) where
 
   -- where nothing is done to the disk
   pub stops_still : (Is : NodeView K → NodeView K → Type 0) → ((v : NodeView K) → Is v v) → (file : FileView) (s : StoredView K) → StoresNode accepts file s → StopsLeaveOf accepts Is s.node file file
-  stops_still Is own file s stores v is told = leaves_still accepts v.start (Is v) file v s.gate refl (own v) (stores v is) told
+  stops_still Is own file s stores v is told = leaves_still accepts v.start (Is v) file v s.gate refl (own v) (stores.kept v is) told
 
   pub makes_none : (node : Option (NodeView K)) → MakesOf accepts None node node None
   makes_none node v is = (v, is, (refl, refl))

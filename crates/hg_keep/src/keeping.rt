@@ -52,7 +52,7 @@ fn work<V: Signer + Drop, D: Disk>(
     ensures counts { (other : List ℕ) → D.faults disk.old other ≤ D.faults disk.new other }
 {
     let opened = stored.node().unwrap().rows() as u64;
-    let counts = put_all(stored, disk, task.events)?;
+    let counts = put_all(alloc, stored, disk, task.events)?;
     let made = make_at(alloc, stored, disk, task.time)?;
     settle(stored, disk)?;
     let outcome = block_of(alloc, members, stored.node().unwrap())?;
@@ -75,8 +75,8 @@ pub fn open_error_of(error: StoreError) -> OpenError
 }
 
 /// Opens the node of a member from its journal, which is made anew where there is none, puts events to it, makes the event that
-/// comes next, if a time is given for it, publishes all that the node's graph decides, and answers what came of each. Each
-/// change stands in the journal before the next one is begun.
+/// comes next, if a time is given for it, publishes all that the node's graph decides, and answers what came of each. A part of
+/// the events, the event that is made, and the marks each stand in the journal before the next is begun.
 pub fn keep<V: Signer + Drop, D: Disk>(
     alloc: Global,
     disk: &mut D,

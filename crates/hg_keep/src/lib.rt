@@ -1,5 +1,6 @@
 //! The work of the command `keep`: a node is opened from its journal, events of a file are put to it, it makes one if it is to,
-//! and publishes all that its graph decides; each change stands in the journal before the next one is begun.
+//! and publishes all that its graph decides. Each of these stands in the journal before the next is begun: a part of the events,
+//! which are stored at once, the event that is made, and the marks.
 //! The layer above uses `read_events`, `keep`, which answers what came of it, and `write_kept`, which prints that; for a node
 //! that stays open it uses the parts of `keep`: `put_all`, `make_next` and `settle`.
 //!

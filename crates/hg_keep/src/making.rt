@@ -2,7 +2,7 @@ ghost use Rattle.std.specs.Prelude.{◌≡◌, ◌≤◌, ℕ, List, None, Some,
 ghost use Rattle.std.specs.Option.{option_to_list};
 ghost use Rattle.hex.specs.Hex.{encode_lower};
 ghost use Rattle.hg_model.specs.Links.{most_others};
-ghost use Rattle.hg_journal.specs.Faults.{IsFaultCounted};
+ghost use Rattle.hg_journal.specs.Faults.{IsFaultCounted, DiskFrame};
 ghost use Rattle.hg_journal.specs.Stored.{StoresNode};
 ghost use Rattle.hg_keep.specs.Keeping.{HasRow, IsMadeSome, MakesOf, TurnOf, told_of};
 ghost use Rattle.hg_keep.specs.Stops.{StopsLeaveOf};
@@ -62,12 +62,10 @@ pub fn make_next<V: Signer + Drop, D: Disk>(
     // A stop leaves the whole journal of the node that is there then.
     ensures stored { StoresNode V.accepts (D.file disk.new) stored.new }
     ensures stops { StopsLeaveOf V.accepts (IsMadeSome V.accepts (Some time)) stored.old.node (D.file disk.old) (D.file disk.new) }
-    ensures shown { is_some (D.file disk.new).reads ≡ is_some (D.file disk.old).reads }
     ensures name { stored.new.name ≡ stored.old.name }
-    ensures started { D.At disk.new stored.new.name }
+    ensures frame { DiskFrame D.Disk stored.new.name disk.old disk.new }
     ensures cause { IsFaultCounted result StoreError.Disk (D.faults disk.old) (D.faults disk.new) stored.old.name }
     ensures never { IsErrOf result StoreError.Closed → ⊥ }
-    ensures counts { (other : List ℕ) → D.faults disk.old other ≤ D.faults disk.new other }
 {
     stored_changes_replay::<V>();
     let node = stored.node().unwrap();
@@ -103,12 +101,10 @@ pub(crate) fn make_at<V: Signer + Drop, D: Disk>(
     ensures makes { IfOk result (MakesOf V.accepts time stored.old.node stored.new.node) }
     ensures stored { OnOk result (StoresNode V.accepts (D.file disk.new) stored.new) }
     ensures stops { StopsLeaveOf V.accepts (IsMadeSome V.accepts time) stored.old.node (D.file disk.old) (D.file disk.new) }
-    ensures shown { is_some (D.file disk.new).reads ≡ is_some (D.file disk.old).reads }
     ensures name { stored.new.name ≡ stored.old.name }
-    ensures started { D.At disk.new stored.new.name }
+    ensures frame { DiskFrame D.Disk stored.new.name disk.old disk.new }
     ensures cause { IsFaultCounted result StoreError.Disk (D.faults disk.old) (D.faults disk.new) stored.old.name }
     ensures never { IsErrOf result StoreError.Closed → ⊥ }
-    ensures counts { (other : List ℕ) → D.faults disk.old other ≤ D.faults disk.new other }
 {
     let Some(time) = time else {
         return Ok(None);

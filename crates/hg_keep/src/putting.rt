@@ -1,5 +1,5 @@
-ghost use Rattle.std.specs.Prelude.{◌≡◌, ◌+◌, ◌<◌, ◌≤◌, ◌^◌, ℕ, List, None, IfOk, IsErrOf, IsSome, is_some};
-ghost use Rattle.hg_journal.specs.Faults.{IsFaultCounted};
+ghost use Rattle.std.specs.Prelude.{◌≡◌, ◌+◌, ◌<◌, ◌≤◌, ◌^◌, ℕ, List, None, IfOk, IsErrOf, IsSome, fold, is_some, length, vec_capacity};
+ghost use Rattle.hg_journal.specs.Faults.{IsFaultCounted, DiskFrame};
 ghost use Rattle.hg_journal.specs.Stored.{StoresNode};
 ghost use Rattle.hg_keep.specs.Keeping.{IsPutSome, PutsAll, PutsSome, counted};
 ghost use Rattle.hg_keep.specs.Stops.{StopsLeaveOf};
@@ -8,8 +8,9 @@ use crate::kept::PutCounts;
 use hg_io::Disk;
 use hg_journal::{StoreError, Stored};
 use hg_life::PutAnswer;
-use hg_model::Bytes;
+use hg_model::{Bytes, Memory};
 use hg_sign::Signer;
+use std::alloc::Global;
 
 impl PutCounts {
     /// Counts one answer more.
@@ -24,10 +25,31 @@ impl PutCounts {
             PutAnswer::Refused(_) => self.refused += 1,
         }
     }
+
+    /// Counts all these answers.
+    fn count_all(&mut self, answers: &[PutAnswer])
+        requires { self.old.accepted + (self.old.known + self.old.refused) + length answers.now < 2 ^ 63 }
+        ensures counted { self.new ≡ fold counted self.old answers.now }
+        ensures more { self.new.accepted + (self.new.known + self.new.refused)
+            ≡ self.old.accepted + (self.old.known + self.old.refused) + length answers.now }
+    {
+        for answer in answers {
+            self.count(*answer);
+        }
+    }
 }
 
-/// Puts the events to the node, one after the other.
+/// Memory for so many answers.
+fn room_for_answers(alloc: Global, count: usize) -> Result<Vec<PutAnswer>, Memory>
+    ensures { IfOk result (λ answers. count ≤ vec_capacity answers) }
+{
+    Ok(Vec::with_capacity(alloc, count)?)
+}
+
+/// Puts the events to the node, one after the other, and stores the accepted ones part by part: those of a part at once, which
+/// has 64,000 bytes of records or what is left. Memory for the answers is taken first.
 pub fn put_all<V: Signer + Drop, D: Disk>(
+    alloc: Global,
     stored: &mut Stored<V>,
     disk: &mut D,
     events: &[Bytes],
@@ -42,21 +64,22 @@ pub fn put_all<V: Signer + Drop, D: Disk>(
     // A stop leaves the whole journal of the node that is there then.
     ensures stored { StoresNode V.accepts (D.file disk.new) stored.new }
     ensures stops { StopsLeaveOf V.accepts (IsPutSome V.accepts events.now) stored.old.node (D.file disk.old) (D.file disk.new) }
-    ensures shown { is_some (D.file disk.new).reads ≡ is_some (D.file disk.old).reads }
     ensures name { stored.new.name ≡ stored.old.name }
-    ensures started { D.At disk.new stored.new.name }
+    ensures frame { DiskFrame D.Disk stored.new.name disk.old disk.new }
     ensures cause { IsFaultCounted result StoreError.Disk (D.faults disk.old) (D.faults disk.new) stored.old.name }
     ensures never { IsErrOf result StoreError.Closed → ⊥ }
-    ensures counts { (other : List ℕ) → D.faults disk.old other ≤ D.faults disk.new other }
 {
     let mut counts = PutCounts {
         accepted: 0,
         known: 0,
         refused: 0,
     };
-    for event in events {
-        let answer = stored.put(disk, event.as_slice())?;
-        counts.count(answer);
+    let mut answers = room_for_answers(alloc, events.len())?;
+    let mut done = 0;
+    'parts: while done < events.len() {
+        stored.put_batch(disk, &events[done..], &mut answers)?;
+        counts.count_all(answers.as_slice());
+        done += answers.len();
     }
     Ok(counts)
 }

@@ -1,5 +1,5 @@
 ghost use Rattle.std.specs.Prelude.{◌≡◌, ◌≤◌, ℕ, List, None, IsErrOf, IsSome, OnOk, is_some};
-ghost use Rattle.hg_journal.specs.Faults.{IsFaultCounted};
+ghost use Rattle.hg_journal.specs.Faults.{IsFaultCounted, DiskFrame};
 ghost use Rattle.hg_journal.specs.Stored.{StoresNode};
 ghost use Rattle.hg_keep.specs.Keeping.{IsSettledSome, SettlesOf};
 ghost use Rattle.hg_keep.specs.Stops.{StopsLeaveOf};
@@ -25,12 +25,10 @@ pub fn settle<V: Signer + Drop, D: Disk>(
     // A stop leaves the whole journal of the node that is there then.
     ensures stored { StoresNode V.accepts (D.file disk.new) stored.new }
     ensures stops { StopsLeaveOf V.accepts IsSettledSome stored.old.node (D.file disk.old) (D.file disk.new) }
-    ensures shown { is_some (D.file disk.new).reads ≡ is_some (D.file disk.old).reads }
     ensures name { stored.new.name ≡ stored.old.name }
-    ensures started { D.At disk.new stored.new.name }
+    ensures frame { DiskFrame D.Disk stored.new.name disk.old disk.new }
     ensures cause { IsFaultCounted result StoreError.Disk (D.faults disk.old) (D.faults disk.new) stored.old.name }
     ensures never { IsErrOf result StoreError.Closed → ⊥ }
-    ensures counts { (other : List ℕ) → D.faults disk.old other ≤ D.faults disk.new other }
 {
     let node = stored.node().unwrap();
     node.is_node();

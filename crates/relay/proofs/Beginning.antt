@@ -79,7 +79,7 @@ module _ {K : Type 0} (accepts : K → Accepts) (start : Start K) where
       let u = all v.0 v.1 in
       let done = u.settles u.last refl in
       let w = settled u.last in
-      let stored = stores w done.0 in
+      let stored = stores.kept w done.0 in
       let same : w.start ≡ start = relayed_start accepts v.0 u.last u.relayed ∙ begins v.0 v.1 in (
         w,
         done.0,

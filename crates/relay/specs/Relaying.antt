@@ -51,7 +51,7 @@ RelaySyncs accepts start old new r =
 
 -- a journal of this name that is not opened yet
 abbrev pub unopened : {K : Type 0} → List ℕ → StoredView K
-unopened name = record { node = None; name = name; gate = 0 }
+unopened name = record { node = None; written = None; pending = 0; name = name; gate = 0 }
 
 -- what is outside, before the journal that is asked for is opened, or without the node
 abbrev pub outside : {K A B C : Type 0} → disk.Ghosts A → source.Ghosts B → sink.Ghosts C → Request → Outside A B C → Moment K

@@ -84,7 +84,7 @@ impl<D: Disk, S: Source, K: Sink> Outside<D, S, K> {
         ensures learns { OnOk result (LearnsOn V.accepts time S.Source K.Sink stored.old stored.new self.old self.new) }
     {
         let rows = self.ask(stored)?;
-        put_all(stored, &mut self.disk, rows_of(&rows))?;
+        put_all(self.alloc, stored, &mut self.disk, rows_of(&rows))?;
         make_next(stored, &mut self.disk, time)?;
         Ok(())
     }

@@ -1,8 +1,8 @@
-use Rattle.std.proofs.Common.{rules, ◌≡◌, ◌+◌, ◌<◌, ◌≤◌, length, take, Some, refl, sym, ◌∙◌, ap, subst, arith, length-take}
+use Rattle.std.proofs.Common.{rules, ◌≡◌, ℕ, ◌+◌, ◌<◌, ◌≤◌, length, take, Some, refl, sym, ◌∙◌, ap, subst, arith, length-take}
 use Rattle.std.proofs.lemmas.List.{length-take-le}
 use Rattle.hg_io.proofs.Going.{stays_on, stays_same}
 use Rattle.hg_node.specs.Replay.{new_node}
-use Rattle.hg_journal.specs.Journal.{head_of, next_node}
+use Rattle.hg_journal.specs.Journal.{NeedsMemory, head_of, next_node}
 use Rattle.hg_journal.specs.Places.{Leads}
 use Rattle.hg_journal.proofs.Fresh.{ours_leads}
 use Rattle.hg_journal.proofs.Gates.{at_state}
@@ -36,6 +36,21 @@ returns-then-not-branch-clause-finds g c bytes told =
     let leads = c.records.invariant.leads bytes told in
     let here = rw c.in-Record.is at (c.in_ok-read.ensures.ahead bytes (c.records.invariant.stays.reads ∙ told)) in
     unfit_broken (next_node g.V.Verifier.accepts) (new_node start) (head_of start) bytes c.records.node c.records.at leads.0 leads.1 c.in-Record.kind _ here.0 (search rules)
+
+pub returns-in_err-come_again-in-Record-clause-free : goal.returns-in_err-come_again-in-Record-clause-free
+returns-in_err-come_again-in-Record-clause-free g c memory bytes told =
+    let accepts = g.V.Verifier.accepts in
+    let here = rw c.in-Record.is at (c.in_ok-read.ensures.ahead bytes (c.records.invariant.stays.reads ∙ told)) in
+    let same : c.from-size.result ≡ c.in-Record.size = search rules in
+    record {
+      node = c.records.node;
+      at = c.records.at;
+      kind = c.in-Record.kind;
+      body = take c.in-Record.size c.read.new.buf;
+      leads = (c.records.invariant.leads bytes told).1;
+      here = here.0;
+      needs = subst (λ (n : ℕ). NeedsMemory accepts c.records.node c.in-Record.kind (take n c.read.new.buf)) same c.in_err-come_again-in-Record.ensures.free;
+    }
 
 pub records-init : goal.records-init
 records-init g c =

@@ -14,7 +14,7 @@ make_at-requires-clause-there g c =
 pub returns-in_err-made-clause-stops : goal.returns-in_err-made-clause-stops
 returns-in_err-made-clause-stops g c =
     stops_made g.V.Verifier.accepts c.args.task.now.events.now c.args.task.now.time c.args.stored.now.node c.put_all.new.stored.node c.in_ok-counts.counts (g.D.Disk.file c.args.disk.now)
-    (g.D.Disk.file c.put_all.new.disk) (g.D.Disk.file c.make_at.new.disk) c.in_ok-counts.ensures.puts c.put_all.ensures.shown c.put_all.ensures.stops c.make_at.ensures.stops
+    (g.D.Disk.file c.put_all.new.disk) (g.D.Disk.file c.make_at.new.disk) c.in_ok-counts.ensures.puts c.put_all.ensures.frame.shown c.put_all.ensures.stops c.make_at.ensures.stops
 
 pub settle-requires-clause-there : goal.settle-requires-clause-there
 settle-requires-clause-there g c =
@@ -24,10 +24,10 @@ settle-requires-clause-there g c =
 pub returns-in_err-settle-clause-stops : goal.returns-in_err-settle-clause-stops
 returns-in_err-settle-clause-stops g c =
     let made = stops_made g.V.Verifier.accepts c.args.task.now.events.now c.args.task.now.time c.args.stored.now.node c.put_all.new.stored.node c.in_ok-counts.counts (g.D.Disk.file c.args.disk.now)
-    (g.D.Disk.file c.put_all.new.disk) (g.D.Disk.file c.make_at.new.disk) c.in_ok-counts.ensures.puts c.put_all.ensures.shown c.put_all.ensures.stops c.make_at.ensures.stops in
+    (g.D.Disk.file c.put_all.new.disk) (g.D.Disk.file c.make_at.new.disk) c.in_ok-counts.ensures.puts c.put_all.ensures.frame.shown c.put_all.ensures.stops c.make_at.ensures.stops in
     stops_settled g.V.Verifier.accepts c.args.task.now.events.now c.args.task.now.time c.args.stored.now.node c.put_all.new.stored.node c.make_at.new.stored.node c.in_ok-counts.counts c.in_ok-made.made
     (g.D.Disk.file c.args.disk.now) (g.D.Disk.file c.put_all.new.disk) (g.D.Disk.file c.make_at.new.disk) (g.D.Disk.file c.settle.new.disk) c.in_ok-counts.ensures.puts c.in_ok-made.ensures.makes
-    (c.make_at.ensures.shown ∙ c.put_all.ensures.shown) made c.settle.ensures.stops
+    (c.make_at.ensures.frame.shown ∙ c.put_all.ensures.frame.shown) made c.settle.ensures.stops
 
 pub unwrap-requires-2 : goal.unwrap-requires-2
 unwrap-requires-2 g c =
@@ -44,10 +44,10 @@ block_of-requires g c =
 pub returns-in_err-outcome-clause-stops : goal.returns-in_err-outcome-clause-stops
 returns-in_err-outcome-clause-stops g c =
     let made = stops_made g.V.Verifier.accepts c.args.task.now.events.now c.args.task.now.time c.args.stored.now.node c.put_all.new.stored.node c.in_ok-counts.counts (g.D.Disk.file c.args.disk.now)
-    (g.D.Disk.file c.put_all.new.disk) (g.D.Disk.file c.make_at.new.disk) c.in_ok-counts.ensures.puts c.put_all.ensures.shown c.put_all.ensures.stops c.make_at.ensures.stops in
+    (g.D.Disk.file c.put_all.new.disk) (g.D.Disk.file c.make_at.new.disk) c.in_ok-counts.ensures.puts c.put_all.ensures.frame.shown c.put_all.ensures.stops c.make_at.ensures.stops in
     stops_settled g.V.Verifier.accepts c.args.task.now.events.now c.args.task.now.time c.args.stored.now.node c.put_all.new.stored.node c.make_at.new.stored.node c.in_ok-counts.counts c.in_ok-made.made
     (g.D.Disk.file c.args.disk.now) (g.D.Disk.file c.put_all.new.disk) (g.D.Disk.file c.make_at.new.disk) (g.D.Disk.file c.settle.new.disk) c.in_ok-counts.ensures.puts c.in_ok-made.ensures.makes
-    (c.make_at.ensures.shown ∙ c.put_all.ensures.shown) made c.settle.ensures.stops
+    (c.make_at.ensures.frame.shown ∙ c.put_all.ensures.frame.shown) made c.settle.ensures.stops
 
 pub returns-clause-kept : goal.returns-clause-kept
 returns-clause-kept g c =
@@ -58,7 +58,7 @@ returns-clause-kept g c =
 pub returns-clause-stops : goal.returns-clause-stops
 returns-clause-stops g c =
     let made = stops_made g.V.Verifier.accepts c.args.task.now.events.now c.args.task.now.time c.args.stored.now.node c.put_all.new.stored.node c.in_ok-counts.counts (g.D.Disk.file c.args.disk.now)
-    (g.D.Disk.file c.put_all.new.disk) (g.D.Disk.file c.make_at.new.disk) c.in_ok-counts.ensures.puts c.put_all.ensures.shown c.put_all.ensures.stops c.make_at.ensures.stops in
+    (g.D.Disk.file c.put_all.new.disk) (g.D.Disk.file c.make_at.new.disk) c.in_ok-counts.ensures.puts c.put_all.ensures.frame.shown c.put_all.ensures.stops c.make_at.ensures.stops in
     stops_settled g.V.Verifier.accepts c.args.task.now.events.now c.args.task.now.time c.args.stored.now.node c.put_all.new.stored.node c.make_at.new.stored.node c.in_ok-counts.counts c.in_ok-made.made
     (g.D.Disk.file c.args.disk.now) (g.D.Disk.file c.put_all.new.disk) (g.D.Disk.file c.make_at.new.disk) (g.D.Disk.file c.settle.new.disk) c.in_ok-counts.ensures.puts c.in_ok-made.ensures.makes
-    (c.make_at.ensures.shown ∙ c.put_all.ensures.shown) made c.settle.ensures.stops
+    (c.make_at.ensures.frame.shown ∙ c.put_all.ensures.frame.shown) made c.settle.ensures.stops

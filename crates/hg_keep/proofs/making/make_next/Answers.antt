@@ -49,4 +49,4 @@ returns-in_err-answer-clause-memory g c = λ memory.
 
 pub returns-in_err-answer-clause-closes : goal.returns-in_err-answer-clause-closes
 returns-in_err-answer-clause-closes g c = λ failed.
-    (c.make.ensures.closes.0 (same_error c.make.result c.from_residual.result c.in_err-answer.field-0.0 store_error.Disk c.in_err-answer.was c.from_residual.ensures.1 failed)).1
+    (c.make.ensures.frame.closes.0 (same_error c.make.result c.from_residual.result c.in_err-answer.field-0.0 store_error.Disk c.in_err-answer.was c.from_residual.ensures.1 failed)).1

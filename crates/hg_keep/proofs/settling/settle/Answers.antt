@@ -25,4 +25,4 @@ returns-in_err-remark-clause-memory g c = λ memory.
 
 pub returns-in_err-remark-clause-closes : goal.returns-in_err-remark-clause-closes
 returns-in_err-remark-clause-closes g c = λ failed.
-    (c.remark.ensures.closes.0 (same_error c.remark.result c.from_residual.result c.in_err-remark.field-0.0 store_error.Disk c.in_err-remark.was c.from_residual.ensures.1 failed)).1
+    (c.remark.ensures.frame.closes.0 (same_error c.remark.result c.from_residual.result c.in_err-remark.field-0.0 store_error.Disk c.in_err-remark.was c.from_residual.ensures.1 failed)).1

@@ -59,8 +59,8 @@ returns-in_err-settle-clause-gossips g c =
     let b = moment D S T stored out in
     let last = moment D S T kept (record out { disk = disk }) in
     let e = c.in_err-settle.field-0.0 in
-    let done = worked accepts D S T stored out so_far.ready kept disk c.settle.ensures.name c.settle.ensures.counts IsSettledSome (λ v w some. Settles some) c.settle.ensures.shown c.settle.ensures.stops in
-    let cause = unkept accepts D S T stored out so_far.ready kept disk c.settle.ensures.name c.settle.ensures.counts c.settle.result e c.in_err-settle.was c.settle.ensures.cause c.settle.ensures.never in
+    let done = worked accepts D S T stored out so_far.ready kept disk c.settle.ensures.name c.settle.ensures.frame.counts IsSettledSome (λ v w some. Settles some) c.settle.ensures.frame.shown c.settle.ensures.stops in
+    let cause = unkept accepts D S T stored out so_far.ready kept disk c.settle.ensures.name c.settle.ensures.frame.counts c.settle.result e c.in_err-settle.was c.settle.ensures.cause c.settle.ensures.never in
     fails accepts a last c.from_residual-in_err-settle.result (open_status (open_error_of e)) c.from_residual-in_err-settle.ensures.1 (passed_on accepts a b last so_far.relays so_far.passed done)
     (cause_on accepts a b last (open_status (open_error_of e)) so_far.passed cause)
 
@@ -78,10 +78,10 @@ returns-clause-gossips g c =
     let a = moment D S T c.args.stored.now c.args.self.now in
     let b = moment D S T stored out in
     let last = moment D S T kept (record out { disk = disk }) in
-    let done = worked accepts D S T stored out so_far.ready kept disk c.settle.ensures.name c.settle.ensures.counts IsSettledSome (λ v w some. Settles some) c.settle.ensures.shown c.settle.ensures.stops in
+    let done = worked accepts D S T stored out so_far.ready kept disk c.settle.ensures.name c.settle.ensures.frame.counts IsSettledSome (λ v w some. Settles some) c.settle.ensures.frame.shown c.settle.ensures.stops in
     let relays = relays_settled accepts stored.node kept.node c.in_ok-settle.ensures.settles in (
       passed_on accepts a b last so_far.relays so_far.passed done,
-      opens accepts D S T stored out so_far.ready kept disk c.settle.ensures.name c.settle.ensures.counts relays c.settle.ensures.started c.in_ok-settle.ensures.stored,
+      opens accepts D S T stored out so_far.ready kept disk c.settle.ensures.name c.settle.ensures.frame.counts relays c.settle.ensures.frame.started c.in_ok-settle.ensures.stored,
       relays_on accepts a.stored.node stored.node kept.node so_far.relays relays,
     )
 

@@ -30,8 +30,8 @@ returns-in_err-put_all-clause-gossips g c =
     let disk = c.put_all.new.disk in
     let last = moment D S T kept (record out { disk = disk }) in
     let e = c.in_err-put_all.field-0.0 in
-    let done = worked accepts D S T stored out first.1 kept disk c.put_all.ensures.name c.put_all.ensures.counts (IsPutSome accepts c.rows_of.result.now) (λ v w some. Puts c.rows_of.result.now some) c.put_all.ensures.shown c.put_all.ensures.stops in
-    let cause = unkept accepts D S T stored out first.1 kept disk c.put_all.ensures.name c.put_all.ensures.counts c.put_all.result e c.in_err-put_all.was c.put_all.ensures.cause c.put_all.ensures.never in
+    let done = worked accepts D S T stored out first.1 kept disk c.put_all.ensures.name c.put_all.ensures.frame.counts (IsPutSome accepts c.rows_of.result.now) (λ v w some. Puts c.rows_of.result.now some) c.put_all.ensures.frame.shown c.put_all.ensures.stops in
+    let cause = unkept accepts D S T stored out first.1 kept disk c.put_all.ensures.name c.put_all.ensures.frame.counts c.put_all.result e c.in_err-put_all.was c.put_all.ensures.cause c.put_all.ensures.never in
     fails accepts a last c.from_residual-in_err-put_all.result (open_status (open_error_of e)) c.from_residual-in_err-put_all.ensures.1 (passed_on accepts a b last first.2 first.0 done)
     (cause_on accepts a b last (open_status (open_error_of e)) first.0 cause)
 
@@ -59,16 +59,16 @@ returns-in_err-make_next-clause-gossips g c =
     let mid = moment D S T kept mid_out in
     let events = c.rows_of.result.now in
     let name = c.put_all.ensures.name in
-    let counts = c.put_all.ensures.counts in
-    let put = worked accepts D S T stored out first.1 kept disk name counts (IsPutSome accepts events) (λ v w some. Puts events some) c.put_all.ensures.shown c.put_all.ensures.stops in
+    let counts = c.put_all.ensures.frame.counts in
+    let put = worked accepts D S T stored out first.1 kept disk name counts (IsPutSome accepts events) (λ v w some. Puts events some) c.put_all.ensures.frame.shown c.put_all.ensures.stops in
     let relays = relays_put accepts events stored.node kept.node c.in_ok-put_all.field-0 c.in_ok-put_all.ensures.puts in
-    let ready = opens accepts D S T stored out first.1 kept disk name counts relays c.put_all.ensures.started c.in_ok-put_all.ensures.stored in
+    let ready = opens accepts D S T stored out first.1 kept disk name counts relays c.put_all.ensures.frame.started c.in_ok-put_all.ensures.stored in
     let made = c.make_next.new.stored in
     let later = c.make_next.new.disk in
     let last = moment D S T made (record mid_out { disk = later }) in
     let e = c.in_err-make_next.field-0.0 in
-    let done = worked accepts D S T kept mid_out ready made later c.make_next.ensures.name c.make_next.ensures.counts (IsMadeSome accepts (Some c.args.time)) (λ v w some. Makes c.args.time some) c.make_next.ensures.shown c.make_next.ensures.stops in
-    let cause = unkept accepts D S T kept mid_out ready made later c.make_next.ensures.name c.make_next.ensures.counts c.make_next.result e c.in_err-make_next.was c.make_next.ensures.cause c.make_next.ensures.never in
+    let done = worked accepts D S T kept mid_out ready made later c.make_next.ensures.name c.make_next.ensures.frame.counts (IsMadeSome accepts (Some c.args.time)) (λ v w some. Makes c.args.time some) c.make_next.ensures.frame.shown c.make_next.ensures.stops in
+    let cause = unkept accepts D S T kept mid_out ready made later c.make_next.ensures.name c.make_next.ensures.frame.counts c.make_next.result e c.in_err-make_next.was c.make_next.ensures.cause c.make_next.ensures.never in
     let so_far = passed_on accepts a b mid first.2 first.0 put in
     fails accepts a last c.from_residual-in_err-make_next.result (open_status (open_error_of e)) c.from_residual-in_err-make_next.ensures.1
     (passed_on accepts a mid last (relays_on accepts stored.node stored.node kept.node first.2 relays) so_far done) (cause_on accepts a mid last (open_status (open_error_of e)) so_far cause)
@@ -90,18 +90,18 @@ returns-clause-gossips g c =
     let mid = moment D S T kept mid_out in
     let events = c.rows_of.result.now in
     let name = c.put_all.ensures.name in
-    let counts = c.put_all.ensures.counts in
-    let put = worked accepts D S T stored out first.1 kept disk name counts (IsPutSome accepts events) (λ v w some. Puts events some) c.put_all.ensures.shown c.put_all.ensures.stops in
+    let counts = c.put_all.ensures.frame.counts in
+    let put = worked accepts D S T stored out first.1 kept disk name counts (IsPutSome accepts events) (λ v w some. Puts events some) c.put_all.ensures.frame.shown c.put_all.ensures.stops in
     let relays = relays_put accepts events stored.node kept.node c.in_ok-put_all.field-0 c.in_ok-put_all.ensures.puts in
-    let ready = opens accepts D S T stored out first.1 kept disk name counts relays c.put_all.ensures.started c.in_ok-put_all.ensures.stored in
+    let ready = opens accepts D S T stored out first.1 kept disk name counts relays c.put_all.ensures.frame.started c.in_ok-put_all.ensures.stored in
     let made = c.make_next.new.stored in
     let later = c.make_next.new.disk in
     let last = moment D S T made (record mid_out { disk = later }) in
-    let done = worked accepts D S T kept mid_out ready made later c.make_next.ensures.name c.make_next.ensures.counts (IsMadeSome accepts (Some c.args.time)) (λ v w some. Makes c.args.time some) c.make_next.ensures.shown c.make_next.ensures.stops in
+    let done = worked accepts D S T kept mid_out ready made later c.make_next.ensures.name c.make_next.ensures.frame.counts (IsMadeSome accepts (Some c.args.time)) (λ v w some. Makes c.args.time some) c.make_next.ensures.frame.shown c.make_next.ensures.stops in
     let turn = relays_turn accepts c.args.time kept.node made.node c.in_ok-make_next.field-0 c.in_ok-make_next.ensures.turn in
     let all = relays_on accepts stored.node stored.node kept.node first.2 relays in (
       passed_on accepts a mid last all (passed_on accepts a b mid first.2 first.0 put) done,
-      opens accepts D S T kept mid_out ready made later c.make_next.ensures.name c.make_next.ensures.counts turn c.make_next.ensures.started c.in_ok-make_next.ensures.stored,
+      opens accepts D S T kept mid_out ready made later c.make_next.ensures.name c.make_next.ensures.frame.counts turn c.make_next.ensures.frame.started c.in_ok-make_next.ensures.stored,
       relays_on accepts stored.node kept.node made.node all turn,
     )
 
