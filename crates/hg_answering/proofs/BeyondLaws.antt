@@ -1,12 +1,12 @@
 -- Flags of the rows from a place on, and what is listed by them
-use Rattle.std.proofs.Common.{◌≡◌, ◌⊎◌, inl, inr, ℕ, zero, suc, ◌+◌, ◌<◌, ◌≤◌, Bool, true, false, not, ◌&&◌, ◌||◌, eqb, List, [], ◌∷◌, ◌++◌, length, map, take, get_or, slice_get, Some, option_map, refl, sym, ap, ap₂, ◌∙◌, subst, arith, length-append}
-use Rattle.std.specs.Prelude.{min, nat_le, nat_lt}
-use Rattle.std.proofs.lemmas.Bool.{or_cases, or_left, or_right, and_parts, and_from, true≢false, eq-eqb, eqb-true, lt-ltb, ltb-true, le-leb, cases_lt, lt-leb}
+use Rattle.std.proofs.Common.{◌≡◌, ◌⊎◌, inl, inr, ℕ, zero, suc, ◌+◌, ◌<◌, ◌≤◌, Bool, true, false, not, ◌&&◌, List, [], ◌∷◌, ◌++◌, length, map, take, get_or, refl, sym, ap, ap₂, ◌∙◌, subst, arith, length-append}
+use Rattle.std.specs.Prelude.{min, nat_le}
+use Rattle.std.proofs.lemmas.Bool.{or_cases, and_parts, true≢false, ltb-true, le-leb, cases_lt, lt-leb}
 use Rattle.std.proofs.lemmas.List.{take_all, take-append-le}
 use Rattle.hg_model.specs.Ancestry.{is_ancestor}
 use Rattle.hg_model.specs.Held.{is_held}
-use Rattle.hg_model.specs.Links.{Link, links, parents, place_of}
-use Rattle.hg_model.specs.Places.{IsEarlier, has_place, list_below}
+use Rattle.hg_model.specs.Links.{links, parents, place_of}
+use Rattle.hg_model.specs.Places.{IsEarlier, has_place}
 use Rattle.hg_model.specs.declared.row.Row.{Row}
 use Rattle.hg_model.proofs.AncestryLaws.{is_ancestor-le, is_ancestor_cases}
 use Rattle.hg_model.proofs.PlacesLaws.{list_below-same, list_below_fails, list_below_none, list_below_passes}
@@ -118,7 +118,7 @@ pub beyond_answer : {K : Type 0} (v : NodeView K) (g : Graph) (names : List (Lis
     → answer.Beyond all rows events ≡ beyond_told v from limit names
 beyond_answer v g names from limit start rows all flags events same count is are begin =
     let found : beyond_flagged g.rows flags start ≡ bytes_beyond_from (node_rows v) from names =
-        beyond_is g.rows names from start flags (is ∙ ap (min from) count) are ∙ ap (λ (h : Graph). bytes_beyond_from h.rows from names) same in
+    beyond_is g.rows names from start flags (is ∙ ap (min from) count) are ∙ ap (λ (h : Graph). bytes_beyond_from h.rows from names) same in
     let here : all ≡ length (bytes_beyond_from (node_rows v) from names) = begin.all ∙ ap (λ (xs : List (List ℕ)). length xs) found in
     let first : events ≡ take limit (bytes_beyond_from (node_rows v) from names) = begin.first ∙ ap (take limit) found in
     let long : rows ≡ length (node_rows v) = count ∙ ap (λ (h : Graph). length h.rows) same in

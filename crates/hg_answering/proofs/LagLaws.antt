@@ -1,9 +1,8 @@
 -- Notes of first rows and of a first part of the order, once more of both came
-use Rattle.std.proofs.Common.{◌≡◌, ℕ, zero, suc, ◌+◌, ◌<◌, ◌≤◌, Bool, true, false, List, [], ◌∷◌, ◌++◌, length, take, get_or, refl, sym, ap, ap₂, ◌∙◌, subst, arith, add-one, length-append, length-take}
+use Rattle.std.proofs.Common.{◌≡◌, ℕ, zero, suc, ◌+◌, ◌<◌, ◌≤◌, Bool, true, false, List, ◌++◌, length, take, get_or, refl, sym, ap, ap₂, ◌∙◌, subst, arith, add-one, length-append, length-take}
 use Rattle.std.specs.Prelude.{All, count_by}
 use Rattle.std.proofs.lemmas.List.{get_or-take, get_or_append_left, take-append-le, take_all}
 use Rattle.std.proofs.lemmas.List.Sums.{count_by_more_no, count_by_more_yes}
-use Rattle.std.proofs.lemmas.List.FromFn.{length-map-range_with_len}
 use Rattle.hg_model.specs.Graph.{IsShaped}
 use Rattle.hg_model.specs.Links.{Link, links, no_row}
 use Rattle.hg_model.specs.Orders.{IsPrefix}
@@ -13,7 +12,7 @@ use Rattle.hg_model.specs.declared.row.Placed.{Placed}
 use Rattle.hg_model.specs.declared.row.Row.{Row}
 use Rattle.hg_model.proofs.LinkLaws.{length-links}
 use Rattle.hg_model.proofs.OrderLaws.{ordered_within}
-use Rattle.hg_life.specs.History.{Change, replay}
+use Rattle.hg_life.specs.History.{Change}
 use Rattle.hg_life.specs.Members.{MemberList}
 use Rattle.hg_life.specs.NodeView.{IsNode, NodeView, kept_of, node_rows, node_state, terms_of, with_changes}
 use Rattle.hg_life.specs.Signing.{Accepts}
@@ -56,6 +55,7 @@ count_front one two xs (suc k) within same =
   where
     here : one (get_or xs k no_entry) ≡ two (get_or xs k no_entry)
     here = same k no_entry within
+
     by_test : count_by one (take k xs) ≡ count_by two (take k xs) → (b : Bool) → one (get_or xs k no_entry) ≡ b → count_by one (take (k + 1) xs) ≡ count_by two (take (k + 1) xs)
     by_test before true is =
         count_by_more_yes one xs k no_entry within is ∙ (ap (λ (n : ℕ). n + 1) before ∙ sym (count_by_more_yes two xs k no_entry within (sym here ∙ is)))
@@ -80,10 +80,10 @@ pub order_lag : (G H : List Row) (order later : List Placed) (len : ℕ) → IsP
 order_lag G H order later len (more, rows_is) (further, order_is) places within =
     let front : take len order ≡ take len later = sym (take-append-le len order further within) ∙ ap (take len) (sym order_is) in
     let counts : count_by (orders_payload G) (take len order) ≡ count_by (orders_payload (G ++ more)) (take len order) =
-        count_same (orders_payload G) (orders_payload (G ++ more)) (take len order)
-        (payload_same G more (take len order) (take_within (λ (p : Placed). p.place < length G) len order places)) in
+    count_same (orders_payload G) (orders_payload (G ++ more)) (take len order)
+    (payload_same G more (take len order) (take_within (λ (p : Placed). p.place < length G) len order places)) in
     let all : count_by (orders_payload G) (take len order) ≡ count_by (orders_payload H) (take len later) =
-        counts ∙ ap₂ (λ (X : List Row) (ps : List Placed). count_by (orders_payload X) ps) (sym rows_is) front in
+    counts ∙ ap₂ (λ (X : List Row) (ps : List Placed). count_by (orders_payload X) ps) (sym rows_is) front in
     ap (λ (k : ℕ). (let notes : OrderNotes = record { ordered = len; payloads = k } in notes)) all
 
 -- ---- a node
@@ -99,10 +99,10 @@ lagging_on accepts members v changes notes node lags =
     let grown = order_grows terms n c v.start.own v.history changes node.coin node.history in
     let rows = rows_grow n c v.history changes in
     let longer : length (kept_of v) ≤ length (kept_of (with_changes v changes)) =
-        (let more = length-append (kept_of v) grown.0 in let is = ap (λ (ps : List Placed). length ps) grown.1 in omega (arith, more, is)) in
+    (let more = length-append (kept_of v) grown.0 in let is = ap (λ (ps : List Placed). length ps) grown.1 in omega (arith, more, is)) in
     let linked : length (node_state v).links ≡ length (node_rows v) = ap (λ (L : List Link). length L) early.linked ∙ length-links (node_rows v) in
     let places : All (λ (p : Placed). p.place < length (node_rows v)) (kept_of v) =
-        subst (λ (k : ℕ). All (λ (p : Placed). p.place < k) (kept_of v)) linked (ordered_within n (node_rows v) (node_state v).links (node_state v).marks) in
+    subst (λ (k : ℕ). All (λ (p : Placed). p.place < k) (kept_of v)) linked (ordered_within n (node_rows v) (node_state v).links (node_state v).marks) in
     let within = lags.within in
     record {
       begun = lags.begun;

@@ -1,6 +1,7 @@
 pub mod BeyondLaws
 pub mod HeadLaws
 pub mod LagLaws
+pub mod MakingLaws
 pub mod NoteLaws
 pub mod SequenceLaws
 pub mod OrderLaws

@@ -1,9 +1,8 @@
 -- The notes of rows with one row more, and of rows behind which others come
-use Rattle.std.proofs.Common.{◌≡◌, ◌⊎◌, inl, inr, ℕ, suc, ◌+◌, ◌<◌, ◌≤◌, Bool, true, false, cond, not, ◌&&◌, ◌||◌, eqb, List, [], ◌∷◌, ◌++◌, length, replicate, take, get_or, slice_get, Option, Some, None, fold, refl, sym, ap, ap₂, ◌∙◌, subst, arith, zero-add, length-take}
+use Rattle.std.proofs.Common.{◌≡◌, ℕ, ◌+◌, ◌<◌, ◌≤◌, Bool, true, false, cond, ◌&&◌, ◌||◌, eqb, List, [], ◌∷◌, ◌++◌, length, replicate, take, get_or, slice_get, Option, Some, None, refl, sym, ap, ap₂, ◌∙◌, subst, arith, zero-add, length-take}
 use Rattle.std.specs.Prelude.{count_by, slice_set}
-use Rattle.std.specs.List.{list_any}
-use Rattle.std.proofs.lemmas.Bool.{eq-eqb, eqb-true, ne_eqb, cases_Bool}
-use Rattle.std.proofs.lemmas.List.{get_or-replicate, get_or-set_other, get_or-set_same, length-replicate, length-set, take_all, take_more, take-append-le}
+use Rattle.std.proofs.lemmas.Bool.{eq-eqb, ne_eqb}
+use Rattle.std.proofs.lemmas.List.{get_or-replicate, get_or-set_other, get_or-set_same, length-replicate, length-set, take_more, take-append-le}
 use Rattle.std.proofs.lemmas.List.Folds.{list_any-append}
 use Rattle.std.proofs.lemmas.List.FromFn.{fill_by_all, get_or-map-range_with_len, length-map-range_with_len, map-range_with_len_more}
 use Rattle.std.proofs.lemmas.List.Sums.{count_by-le-length, count_by_more_no, count_by_more_yes, fold-append}
@@ -19,7 +18,7 @@ use Rattle.hg_model.specs.declared.row.Row.{Row}
 use Rattle.hg_life.specs.Verdict.{last_name, later_name}
 use Rattle.hg_service.specs.Binding.{is_strange, is_strange_row}
 use Rattle.hg_model.specs.Prefix.{Graph}
-use Rattle.hg_answering.specs.RowNotes.{AreFirst, RowNotesView, first_notes, is_unbound, notes_of, with_unbound}
+use Rattle.hg_answering.specs.RowNotes.{AreFirst, RowNotesView, first_notes, is_unbound, with_unbound}
 use Rattle.hg_answering.specs.Telling.{has_payload}
 use Rattle.hg_model.proofs.LinkLaws.{creator-links, length-links}
 use Rattle.hg_answering.proofs.SequenceLaws.{sequence_later}
@@ -31,8 +30,8 @@ table_set old new n c value below here other =
     fill_by_all new (slice_set (table old n) c value) n value (length-set (table old n) c value ∙ length-map-range_with_len old 0 n)
     (λ m inside. dite (ℕ_discrete m c)
     (λ same. ap (λ (k : ℕ). get_or (slice_set (table old n) c value) k value) same
-        ∙ (get_or-set_same (table old n) c value value (omega (arith, below, length-map-range_with_len old 0 n))
-        ∙ (sym here ∙ ap new (sym same))))
+    ∙ (get_or-set_same (table old n) c value value (omega (arith, below, length-map-range_with_len old 0 n))
+    ∙ (sym here ∙ ap new (sym same))))
     (λ else. get_or-set_other (table old n) c m value value else ∙ (get_or-map-range_with_len old 0 n m m value inside (zero-add m) ∙ sym (other m else))))
 
 row_at : (G : List Row) (x : ℕ) (row : Row) → x < length G → slice_get G x ≡ Some row → get_or G x row ≡ row
@@ -93,9 +92,9 @@ module _ (bound : List ℕ) (count : ℕ) (G : List Row) (x : ℕ) (row : Row) (
       by_test true is =
           table_set (is_strange bound (take x G)) (is_strange bound (take (x + 1) G)) count row.creator true member
           (strange_next row.creator ∙ (ap (λ (b : Bool). is_strange bound (take x G) row.creator || b)
-              (tells_of row.creator ∙ ap₂ (λ (a b : Bool). a && b) (eq-eqb row.creator row.creator refl) is) ∙ or_true (is_strange bound (take x G) row.creator)))
+          (tells_of row.creator ∙ ap₂ (λ (a b : Bool). a && b) (eq-eqb row.creator row.creator refl) is) ∙ or_true (is_strange bound (take x G) row.creator)))
           (λ m else. strange_next m ∙ (ap (λ (b : Bool). is_strange bound (take x G) m || b)
-              (tells_of m ∙ ap (λ (b : Bool). b && is_unbound bound row) (ne_eqb row.creator m (λ same. else (sym same)))) ∙ or_false (is_strange bound (take x G) m)))
+          (tells_of m ∙ ap (λ (b : Bool). b && is_unbound bound row) (ne_eqb row.creator m (λ same. else (sym same)))) ∙ or_false (is_strange bound (take x G) m)))
       by_test false is =
           fill_by_all (is_strange bound (take (x + 1) G)) (table (is_strange bound (take x G)) count) count false (length-map-range_with_len (is_strange bound (take x G)) 0 count)
           (λ m below. get_or-map-range_with_len (is_strange bound (take x G)) 0 count m m false below (zero-add m)
@@ -109,6 +108,7 @@ module _ (bound : List ℕ) (count : ℕ) (G : List Row) (x : ℕ) (row : Row) (
     where
       same : has_payload (get_or G x row) ≡ has_payload row
       same = ap has_payload (row_at G x row inside at)
+
       by_test : (b : Bool) → has_payload row ≡ b → count_by has_payload (take (x + 1) G) ≡ count_by has_payload (take x G) + cond b 1 0
       by_test true is = count_by_more_yes has_payload G x row inside (same ∙ is)
       by_test false is = (let stays = count_by_more_no has_payload G x row inside (same ∙ is) in omega (arith, stays))
@@ -121,13 +121,13 @@ module _ (bound : List ℕ) (count : ℕ) (G : List Row) (x : ℕ) (row : Row) (
       → (let notes : RowNotesView = record { lasts = lasts; strange = strange; sequences = sequences; payloads = payloads } in notes) ≡ first_notes bound count G (x + 1)
   notes_next old lasts strange sequences payloads member was last flags numbers sum =
       let lasts_is : lasts ≡ table (λ m. last_name m (take (x + 1) G)) count =
-          last ∙ (ap (λ (v : RowNotesView). slice_set v.lasts row.creator (Some row.name)) was ∙ lasts_next member) in
+      last ∙ (ap (λ (v : RowNotesView). slice_set v.lasts row.creator (Some row.name)) was ∙ lasts_next member) in
       let strange_is : strange ≡ table (is_strange bound (take (x + 1) G)) count =
-          flags ∙ (ap (λ (v : RowNotesView). with_unbound bound row v.strange) was ∙ strange_next_table member) in
+      flags ∙ (ap (λ (v : RowNotesView). with_unbound bound row v.strange) was ∙ strange_next_table member) in
       let sequences_is : sequences ≡ table (sequence_of (links G)) (x + 1) =
-          numbers ∙ (ap (λ (v : RowNotesView). v.sequences ++ sequence_of (links G) x ∷ []) was ∙ sym (map-range_with_len_more (sequence_of (links G)) 0 x x (zero-add x))) in
+      numbers ∙ (ap (λ (v : RowNotesView). v.sequences ++ sequence_of (links G) x ∷ []) was ∙ sym (map-range_with_len_more (sequence_of (links G)) 0 x x (zero-add x))) in
       let payloads_is : payloads ≡ count_by has_payload (take (x + 1) G) =
-          sum ∙ (ap (λ (v : RowNotesView). v.payloads + cond (has_payload row) 1 0) was ∙ sym payloads_next) in
+      sum ∙ (ap (λ (v : RowNotesView). v.payloads + cond (has_payload row) 1 0) was ∙ sym payloads_next) in
       rw (lasts_is, strange_is, sequences_is, payloads_is) refl
 
 -- a table of one value
@@ -162,6 +162,7 @@ module _ (bound : List ℕ) (count : ℕ) (G : List Row) (x : ℕ) (old : RowNot
       at_most_one : (b : Bool) → cond b 1 0 ≤ 1
       at_most_one true = omega arith
       at_most_one false = omega arith
+
       length-take-le : (k : ℕ) (H : List Row) → length (take k H) ≤ length H
       length-take-le k H = omega (arith, length-take k H)
 

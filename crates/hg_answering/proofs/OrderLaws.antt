@@ -1,20 +1,18 @@
 -- Entries of an order as they are told
 use Rattle.std.proofs.Common.{◌≡◌, ℕ, ◌+◌, ◌-◌, ◌<◌, ◌≤◌, List, [], ◌∷◌, ◌++◌, length, map, get_or, slice_get, Some, refl, sym, ap, ap₂, ◌∙◌, arith, zero-add}
-use Rattle.std.specs.Prelude.{min}
 use Rattle.std.specs.List.{zip}
 use Rattle.std.proofs.lemmas.List.{get_or-map, length-map}
 use Rattle.std.proofs.lemmas.List.FromFn.{get_or-map-range_with_len}
 use Rattle.std.proofs.lemmas.Option.{slice_get-get_or}
 use Rattle.std.proofs.lemmas.Slice.Zip.{get_or-zip, length-zip}
 use Rattle.hg_model.specs.Graph.{name_at, name_in}
-use Rattle.hg_model.specs.Links.{Link, creator, links, no_row}
+use Rattle.hg_model.specs.Links.{creator, links, no_row}
 use Rattle.hg_model.specs.Order.{sequence_of}
 use Rattle.hg_model.specs.Places.{table}
 use Rattle.hg_model.specs.declared.row.Placed.{Placed}
 use Rattle.hg_model.specs.declared.row.Row.{Row}
 use Rattle.hg_model.proofs.LinkLaws.{creator-links}
 use Rattle.hg_life.specs.declared.pay.Effect.{Effect}
-use Rattle.hg_outcome.specs.declared.outcome.OrderLine.{OrderLine}
 use Rattle.hg_service.specs.declared.answer.OrderedEvent.{OrderedEvent}
 use Rattle.hg_answering.specs.Telling.{ordered_event, window}
 use Rattle.hg_answering.proofs.WindowLaws.{window_next}
@@ -49,7 +47,7 @@ ordered_next G order effects start i q f event old new from inside even told bef
     let within : i < length all = omega (arith, inside, long) in
     let pair : (get_or order i q, get_or effects i f) ≡ get_or all i (q, f) = sym (get_or-zip order effects i (q, f) inside (omega (arith, inside, even))) in
     let here : event ≡ get_or (map (ordered_event G (links G)) all) i event =
-        told ∙ (ap (ordered_event G (links G)) pair ∙ sym (get_or-map (ordered_event G (links G)) all i (q, f) event within)) in
+    told ∙ (ap (ordered_event G (links G)) pair ∙ sym (get_or-map (ordered_event G (links G)) all i (q, f) event within)) in
     is ∙ (ap₂ (λ (xs : List OrderedEvent) (x : OrderedEvent). xs ++ x ∷ []) before here
     ∙ sym (window_next start i (map (ordered_event G (links G)) all) event from (omega (arith, within, length-map all (ordered_event G (links G))))))
 

@@ -5,7 +5,6 @@ use Rattle.hg_life.specs.Members.{MemberList}
 use Rattle.hg_life.specs.NodeView.{NodeView}
 use Rattle.hg_life.specs.Signing.{Accepts}
 use Rattle.hg_node.specs.Puts.{after_put}
-use Rattle.hg_node.specs.Restore.{after_restore}
 use Rattle.hg_service.specs.Asking.{request_of}
 use Rattle.hg_service.specs.Text.{answer_text}
 use Rattle.hg_service.specs.declared.answer.Answer.{Answer}
@@ -31,7 +30,10 @@ module _ {K : Type 0} (accepts : K → Accepts) (members : MemberList) where
       subst (λ (text : List ℕ). ServesLines accepts members s next (text ++ more) t) (sym said_is)
       (subst (λ (v : ServiceView K). ServesLines accepts members v next more t) node_is later)
   serves_more s u t (line ∷ first) next said more (a, w, rest, answers, said_is, serves) later = (
-    a, w, rest ++ more, answers,
+    a,
+    w,
+    rest ++ more,
+    answers,
     ap (λ (text : List ℕ). text ++ more) said_is ∙ append_assoc (answer_text members a) rest more,
     serves_more w u t first next rest more serves later,
   )

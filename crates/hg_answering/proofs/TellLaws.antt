@@ -1,5 +1,5 @@
 -- What is told is what was noted
-use Rattle.std.proofs.Common.{◌≡◌, ℕ, ◌-◌, ◌<◌, ◌≤◌, Bool, true, false, List, [], get_or, slice_get, length, map, Option, Some, None, is_some, refl, sym, ap, ap₂, ◌∙◌, subst, zero-add, arith}
+use Rattle.std.proofs.Common.{◌≡◌, ℕ, ◌-◌, ◌<◌, ◌≤◌, Bool, false, List, [], get_or, slice_get, length, Option, Some, None, is_some, refl, sym, ap, ap₂, ◌∙◌, subst, zero-add, arith}
 use Rattle.std.specs.Prelude.{count_by, option_map, unwrap_or, take}
 use Rattle.std.proofs.lemmas.Bool.{ltb-true}
 use Rattle.std.proofs.lemmas.List.{length-map, take_all}
@@ -37,7 +37,7 @@ heads_listed G n names is =
     ap names_there is
     ∙ (ap (λ (k : ℕ). list_below (λ m. unwrap_or (get_or (table last n) m None) []) k (λ m. is_some (get_or (table last n) m None))) (length-map-range_with_len last 0 n)
     ∙ list_below-same (λ m. unwrap_or (get_or (table last n) m None) []) (λ m. unwrap_or (last m) []) n (λ m. is_some (get_or (table last n) m None)) (λ m. is_some (last m))
-        (λ m below. ap is_some (at m below)) (λ m below passes. ap (λ (o : Option (List ℕ)). unwrap_or o []) (at m below)))
+    (λ m below. ap is_some (at m below)) (λ m below passes. ap (λ (o : Option (List ℕ)). unwrap_or o []) (at m below)))
 
 -- the place of the last own row is that of a row
 pub last_own_inside : (own : ℕ) (G : List Row) (p : ℕ) → last_own_place own G ≡ Some p → p < length G
@@ -75,7 +75,7 @@ module _ {K : Type 0} (members : MemberList) (v : NodeView K) (notes : Notes) (a
   pub few_flags : length members.entries ≤ 128 → length notes.rows.strange ≤ 128
   few_flags few =
       let long = ap (λ (r : RowNotesView). length r.strange) are.rows
-          ∙ length-map-range_with_len (is_strange (bound_payload members) (take (length (node_rows v)) (node_rows v))) 0 (length members.entries) in
+      ∙ length-map-range_with_len (is_strange (bound_payload members) (take (length (node_rows v)) (node_rows v))) 0 (length members.entries) in
       omega (arith, few, long)
 
   pub state_noted : members_flagged notes.rows.strange ≡ strange_in members (node_rows v)

@@ -8,11 +8,7 @@ use hg_node::Node;
 use hg_sign::Signer;
 
 /// Notes what came to a node since; some first part of that, where memory runs out.
-pub fn follow<V: Signer>(
-    members: &Members,
-    node: &Node<V>,
-    notes: &mut Notes,
-) -> Result<(), Memory>
+pub fn follow<V: Signer>(members: &Members, node: &Node<V>, notes: &mut Notes) -> Result<(), Memory>
     requires { AreLagging members.now node.now notes.old }
     ensures noted { OnOk result (AreNoted members.now node.now notes.new) }
     ensures lagging { AreLagging members.now node.now notes.new }

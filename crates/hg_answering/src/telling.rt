@@ -33,10 +33,7 @@ fn waiting<V: Signer>(members: &Members, node: &Node<V>, notes: &Notes) -> u64
     requires { AreNoted members.now node.now notes.now }
     ensures { result ≡ waiting (node_rows node.now) (kept_of node.now) }
 {
-    notes
-        .rows
-        .payloads()
-        .saturating_sub(notes.order.payloads)
+    notes.rows.payloads().saturating_sub(notes.order.payloads)
 }
 
 /// The counts of a node.

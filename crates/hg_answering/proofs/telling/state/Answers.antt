@@ -1,6 +1,4 @@
-use Rattle.std.proofs.Common.{◌∙◌, ◌≡◌, ap, sym, arith, length, ℕ, List, Bool, refl}
-use Rattle.hg_life.specs.NodeView.{kept_of, node_rows}
-use Rattle.hg_answering.specs.RowNotes.{RowNotesView}
+use Rattle.std.proofs.Common.{refl}
 use Rattle.hg_answering.proofs.TellLaws.{few_flags, state_noted}
 use Rattle.hg_answering.proofs.telling.state.Goals as goal
 

@@ -1,5 +1,4 @@
 use Rattle.std.proofs.Common.{◌∙◌, ◌-◌, ap, ℕ}
-use Rattle.hg_life.specs.NodeView.{kept_of, node_rows}
 use Rattle.hg_answering.proofs.TellLaws.{waiting_noted}
 use Rattle.hg_answering.proofs.telling.waiting.Goals as goal
 

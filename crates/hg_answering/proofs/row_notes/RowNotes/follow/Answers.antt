@@ -1,4 +1,4 @@
-use Rattle.std.proofs.Common.{◌∙◌, arith}
+use Rattle.std.proofs.Common.{◌∙◌}
 use Rattle.hg_answering.proofs.NoteLaws.{first_at}
 use Rattle.hg_answering.proofs.row_notes.RowNotes.follow.Goals as goal
 

@@ -1,4 +1,4 @@
-use Rattle.std.proofs.Common.{◌≡◌, ◌∙◌, false, refl}
+use Rattle.std.proofs.Common.{◌∙◌, false, refl}
 use Rattle.hg_answering.proofs.NoteLaws.{table_of_one}
 use Rattle.hg_answering.proofs.row_notes.RowNotes.new.Goals as goal
 

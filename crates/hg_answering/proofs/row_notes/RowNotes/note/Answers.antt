@@ -1,4 +1,4 @@
-use Rattle.std.proofs.Common.{◌+◌, ◌≡◌, ◌<◌, ◌∙◌, ◌++◌, ◌∷◌, [], ap, arith, length, subst, sym, refl, ap₂, List, ℕ}
+use Rattle.std.proofs.Common.{◌+◌, ◌≡◌, ◌∙◌, ◌++◌, ◌∷◌, [], ap, arith, ℕ}
 use Rattle.hg_model.specs.Stakes.{member_count}
 use Rattle.hg_answering.specs.RowNotes.{RowNotesView, first_notes}
 use Rattle.hg_answering.proofs.NoteLaws.{member_noted, flag_noted, few_payloads, member_of_row, notes_next}
