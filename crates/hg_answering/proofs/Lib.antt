@@ -1,0 +1,10 @@
+pub mod BeyondLaws
+pub mod HeadLaws
+pub mod LagLaws
+pub mod MakingLaws
+pub mod NoteLaws
+pub mod SequenceLaws
+pub mod OrderLaws
+pub mod ServeLaws
+pub mod TellLaws
+pub mod WindowLaws

@@ -1,0 +1,10 @@
+pub mod Answering
+pub mod Beyond
+pub mod Notes
+pub mod OrderNotes
+pub mod Putting
+pub mod RowNotes
+pub mod Serving
+pub mod Steps
+pub mod Telling
+pub mod Told
