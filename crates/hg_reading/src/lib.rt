@@ -1,6 +1,7 @@
 //! A gossip script, read from bytes. The layer above uses `read_script`, which gives just the lines that the bytes are in
 //! a run with so many workers, or the first line that is refused. `table.rt` has a function for each kind of line, as the
-//! table of `specs/Table.antt` in `hg_script` has a definition, and `labels.rt` and `payload.rt` read words with commas.
+//! table of `specs/Table.antt` in `hg_script` has a definition, and `labels.rt` and `payload.rt` read words with commas. A layer
+//! that reads other lines uses `all_words` and `payload_of`.
 //!
 //! From `lines_of` in the tests of `check_bytes`:
 //!
@@ -21,4 +22,6 @@ mod script;
 mod table;
 mod words;
 
+pub use payload::payload_of;
 pub use script::read_script;
+pub use words::all_words;

@@ -24,6 +24,15 @@ pub fn words_of<'a>(alloc: Global, line: &'a [u8]) -> Result<Vec<&'a [u8]>, Allo
         .collect(alloc)
 }
 
+/// All words of a line.
+pub fn all_words<'a>(alloc: Global, line: &'a [u8]) -> Result<Vec<&'a [u8]>, AllocError>
+    ensures { IfOk result (λ words. bytes_in words.items ≡ spec.words_of line.now) }
+{
+    line.split(|byte| is_blank(*byte))
+        .filter(|part| !part.is_empty())
+        .collect(alloc)
+}
+
 fn without_return(line: &[u8]) -> &[u8]
     ensures { result.now ≡ strip_carriage_return line.now }
 {
