@@ -11,7 +11,7 @@ use hg_model::Bytes;
 use hg_outcome::{Block, Head, OrderLine};
 
 /// What came of an event's payload, behind a blank.
-fn effect_pieces(effect: &Effect) -> [Piece<'_>; 4]
+pub fn effect_pieces(effect: &Effect) -> [Piece<'_>; 4]
     ensures text { pieces_text result ≡ codes " " ++ effect_text effect.now }
     ensures four { length result ≡ 4 }
 {

@@ -21,8 +21,9 @@ mod block;
 mod phrases;
 mod pieces;
 
-pub use block::{write_block, write_head};
+pub use block::{effect_pieces, write_block, write_head};
 pub use phrases::{
-    Phrase, fault_parts, make_answer_phrase, number_phrase, put_answer_phrase, sync_made_phrase,
+    Phrase, fault_parts, make_answer_phrase, make_fault_parts, number_phrase, put_answer_phrase,
+    sync_made_phrase,
 };
 pub use pieces::{Piece, print_pieces, write_pieces};

@@ -48,7 +48,7 @@ pub fn fault_parts(fault: &Fault) -> (&[u8], Piece<'_>)
 }
 
 /// Why a node makes no event: a word, and what is told of it.
-fn make_fault_parts(fault: &MakeFault) -> (&[u8], Piece<'_>)
+pub fn make_fault_parts(fault: &MakeFault) -> (&[u8], Piece<'_>)
     ensures { result.0.now ++ piece_text result.1 ≡ make_fault_text fault.now }
 {
     match fault {

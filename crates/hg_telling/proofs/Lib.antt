@@ -1,0 +1,4 @@
+pub mod DigitLaws
+pub mod HashLaws
+pub mod LineLaws
+pub mod PartLaws
