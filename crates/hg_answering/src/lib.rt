@@ -3,7 +3,7 @@
 //! The layer above uses the calls below, each of which tells one thing of a node that does not change. What would need a walk
 //! over all rows is noted as they come: after a change `follow` looks at the new rows and at the new entries of the order alone.
 //!
-//! From `waiting` of this crate:
+//! From `waiting` of `hg_answering`:
 //!
 //! ```text
 //! fn waiting<V: Signer>(members: &Members, node: &Node<V>, notes: &Notes) -> u64

@@ -3,17 +3,14 @@
 //! The layer above uses a `LineReader`, which finds `lines_in` of what was read, keeps one line of at most 1,048,576 bytes and
 //! drops a longer one, and `request_of`, which is the definition of that name.
 //!
-//! How the lines of one read are answered before the next one:
+//! From `request_of` of `hg_asking`:
 //!
 //! ```text
-//! while let Some(heard) = reader.next() {
-//!     let request = match heard {
-//!         Heard::Line => request_of(alloc, members, reader.line()),
-//!         Heard::Long => Err(Stop::Fault(LineFault::Long)),
-//!     };
-//!     ...
+//! let words = all_words(alloc, line)?;
+//! match words.as_slice() {
+//!     [] => Err(Stop::Fault(LineFault::Script(Why::Word))),
+//!     [verb, words @ ..] => asked_by(alloc, members, verb, words),
 //! }
-//! let more = reader.read(source)?;
 //! ```
 #![tactic(auto)]
 

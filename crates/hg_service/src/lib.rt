@@ -1,12 +1,11 @@
 //! What a host program says to the node of a member, and what it is told: a request is a line, an answer a line with a count of
 //! the lines that follow it. `specs/Asking.antt` says which lines there are and which request each is, `specs/Text.antt` how an
 //! answer is written, and `specs/Binding.antt` by which text of the member file, and by which first event, a node is bound to it.
-//! Here are the values, without a node; what a node answers stands in `hg_serving`.
+//! Here are the values, without a node; what a node answers stands in `hg_answering`.
 //!
-//! A host's line and what is answered, in the words of `specs/`:
+//! From `made_text` in `Worked.antt` of `hg_service`:
 //!
 //! ```text
-//! request_of members (codes "make 5") ≡ Ok (request.Make 5 [] [])
 //! answer_text members (answer.Made 8 (0 ∷ 255 ∷ [])) ≡ codes "0 made 8 00ff\n"
 //! ```
 #![tactic(auto)]

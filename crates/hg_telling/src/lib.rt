@@ -3,13 +3,12 @@
 //! The layer above uses `write_answer`, which writes `answer_text` of an answer to a sink, by pages, without memory, and
 //! `digest_of`, which is the definition of that name.
 //!
-//! How an answer is told, and a fault of the sink handed on:
+//! From `write_answer` of `hg_telling`:
 //!
 //! ```text
-//! let told = write_answer(out, members, &Answer::Bad(LineFault::Long));
-//! if told.is_err() {
-//!     return Status::WriteFault;
-//! }
+//! let mut page = Page::new();
+//! write_text(&mut page, sink, members, answer)?;
+//! page.send(sink)
 //! ```
 #![tactic(auto)]
 
