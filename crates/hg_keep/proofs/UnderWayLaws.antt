@@ -1,18 +1,19 @@
 -- Work that is in part staged: what is written and what is there came of the node that was there, and so is what a stop leaves.
-use Rattle.std.proofs.Common.{◌≡◌, ◌⊎◌, inl, inr, ℕ, List, take, Option, is_some, refl, sym, ◌∙◌, subst}
+use Rattle.std.proofs.Common.{◌≡◌, ◌⊎◌, inl, inr, ℕ, List, take, Option, Some, is_some, refl, sym, ◌∙◌, subst}
 use Rattle.std.specs.Prelude.{IsSome}
 use Rattle.hg_io.specs.FileView.{FileView}
 use Rattle.hg_life.specs.NodeView.{NodeView}
 use Rattle.hg_life.specs.Signing.{Accepts}
+use Rattle.hg_life.specs.declared.answers.MakeAnswer.{MakeAnswer}
 use Rattle.hg_journal.specs.Staging.{StopsKeepStaged}
 use Rattle.hg_journal.specs.Stored.{IsStored, StoredView, StoresNode, StoresWritten}
 use Rattle.hg_journal.proofs.Steps.{still_keeps}
 use Rattle.hg_keep.specs.declared.kept.Making.{Making}
 use Rattle.hg_keep.specs.declared.kept.PutCounts.{PutCounts}
-use Rattle.hg_keep.specs.Keeping.{IsOnTheWay, IsPutSome, MakesOf, PutsAll, SettlesOf, puts, settled}
+use Rattle.hg_keep.specs.Keeping.{IsMadeSome, IsOnTheWay, IsPutSome, IsSettledSome, MakesOf, PutsAll, SettlesOf, TurnOf, puts, settled, told_of}
 use Rattle.hg_keep.specs.Stops.{CameOf, IsUnderWay, MovesOn, StopsLeaveOf}
 use Rattle.hg_keep.proofs.StopLaws.{leaves_either, leaves_on, leaves_wider, some_is, some_value, told_still}
-use Rattle.hg_keep.proofs.WayLaws.{makes_start, puts_start, stops_still}
+use Rattle.hg_keep.proofs.WayLaws.{makes_start, puts_start, stops_still, turn_start}
 
 module _ {K : Type 0} (accepts : K → Accepts) where
   pub stores_written : (file : FileView) (s : StoredView K) → StoresNode accepts file s → StoresWritten accepts file s
@@ -85,3 +86,22 @@ module _ {K : Type 0} (accepts : K → Accepts) where
     came_settled final done v is =
         let made = makes (puts accepts v events).0 (all v is).0 in
         (settled made.0, (done made.0 made.1).0, makes_start accepts (puts accepts v events).0 made.0 time told made.2 ∙ puts_start accepts v events, inr (made.0, told, made.2, inr refl))
+
+  -- ---- a step that is staged and then stored
+
+  -- what a stop leaves meanwhile
+  pub step_stops : (Comes : NodeView K → NodeView K → Type 0) → ((v : NodeView K) → Comes v v) → (a b : FileView) (old mid : StoredView K) → StoresNode accepts a old → mid.written ≡ old.written
+      → CameOf Comes old.node mid.node → StopsKeepStaged accepts a b mid → StopsLeaveOf accepts Comes old.node a b
+  step_stops Comes own a b old mid stores same came stops v is told =
+      let keeps = stops v (same ∙ stores.all ∙ is) told in
+      let now = came v is in
+      let here : now.0 ≡ keeps.0 = some_is now.0 keeps.0 (sym now.1 ∙ keeps.1) in
+      leaves_either accepts v.start (Comes v) a b v keeps.0 refl (subst (λ (w : NodeView K). w.start ≡ v.start) here now.2) (own v) (subst (Comes v) here now.3) keeps.2
+
+  pub came_turn : (time : ℕ) (node next : Option (NodeView K)) (a : Option MakeAnswer) → TurnOf accepts time node next a → CameOf (IsMadeSome accepts (Some time)) node next
+  came_turn time node next a turn v is =
+      let one = turn v is in
+      (one.0, one.1, turn_start accepts v one.0 time a one.2, inr (Some (told_of one.0 a), (a, one.2, refl)))
+
+  pub came_marks : (node next : Option (NodeView K)) → SettlesOf accepts node next → CameOf IsSettledSome node next
+  came_marks node next settles v is = (settled v, (settles v is).0, refl, inr refl)

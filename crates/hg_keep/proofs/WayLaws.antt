@@ -32,7 +32,7 @@ use Rattle.hg_play.specs.Sites.{IsMadeWith}
 use Rattle.hg_life.specs.declared.answers.PutAnswer.{PutAnswer}
 use Rattle.hg_journal.specs.Staging as staging
 use Rattle.hg_journal.specs.Staging.{PutsFront, StopsKeepPuts}
-use Rattle.hg_journal.specs.Stored.{ComesOfMaking, MakesNode, StopsKeepMaking, StopsKeepMarks, StoredView, StoresNode}
+use Rattle.hg_journal.specs.Stored.{MakesNode, StoredView, StoresNode}
 use Rattle.hg_keep.specs.declared.kept.PutCounts.{PutCounts}
 use Rattle.hg_keep.specs.declared.kept.KeepReport.{KeepReport}
 use Rattle.hg_keep.specs.declared.kept.Making.{Making}
@@ -170,23 +170,6 @@ module _ {K : Type 0} (accepts : K → Accepts) where
       let made = makes v there in
       subst (λ (o : Option (NodeView K)). HasRow (Some a) o) (sym made.1) (row_for v made.0 others time a law is_node few small made.2)
 
-  made_some : (v w : NodeView K) (others : List (List ℕ)) (time : ℕ) → next_others v ≡ Some others → ComesOfMaking accepts others time [] v w → IsMadeSome accepts (Some time) v w
-  made_some v w others time comes (inl same) = inl same
-  made_some v w others time comes (inr made) = inr (Some (told_of w (Some made.0)), (Some made.0, (others, comes, made.1), refl))
-
-  coming_start : (v w : NodeView K) (others : List (List ℕ)) (time : ℕ) → ComesOfMaking accepts others time [] v w → w.start ≡ v.start
-  coming_start v w others time (inl same) = ap (λ (x : NodeView K). x.start) same
-  coming_start v w others time (inr made) = ap (λ (x : NodeView K). x.start) made.1.grown
-
-  pub stops_making : (a b : FileView) (was is : StoredView K) (v : NodeView K) (others : List (List ℕ)) (time : ℕ) → was.node ≡ Some v → next_others v ≡ Some others
-      → StopsKeepMaking accepts others time [] a b was is → StopsLeaveOf accepts (IsMadeSome accepts (Some time)) was.node a b
-  stops_making a b was is v others time there comes stops x here told =
-      let same : v ≡ x = some_is v x (sym there ∙ here) in
-      let comes_x = subst (λ (y : NodeView K). next_others y ≡ Some others) same comes in
-      let keeps = stops x here told in
-      leaves_either accepts x.start (IsMadeSome accepts (Some time) x) a b x keeps.0 refl (coming_start x keeps.0 others time keeps.1.0) (inl refl)
-      (made_some x keeps.0 others time comes_x keeps.1.0) keeps.2
-
   -- where nothing is done to the disk
   pub stops_still : (Is : NodeView K → NodeView K → Type 0) → ((v : NodeView K) → Is v v) → (file : FileView) (s : StoredView K) → StoresNode accepts file s → StopsLeaveOf accepts Is s.node file file
   stops_still Is own file s stores v is told = leaves_still accepts v.start (Is v) file v s.gate refl (own v) (stores.kept v is) told
@@ -210,15 +193,6 @@ module _ {K : Type 0} (accepts : K → Accepts) where
         changes x is ∙ ap₂ (λ (n : ℕ) (s : Share). Some (with_changes x (publish_changes x n s))) (all ∙ ap (λ (y : NodeView K). length (node_rows y)) same) one,
         settles_all K accepts x (subst (IsNode accepts) same is_node),
       )
-
-  pub stops_settling : (a b : FileView) (node : Option (NodeView K)) (v : NodeView K) (len : ℕ) (share : Share) → node ≡ Some v → len ≡ length (node_rows v) → share ≡ whole
-      → StopsKeepMarks accepts len share a b node → StopsLeaveOf accepts IsSettledSome node a b
-  stops_settling a b node v len share there all one stops x is told =
-      let same : v ≡ x = some_is v x (sym there ∙ is) in
-      let keeps = stops x is told in
-      let is_settled : keeps.0 ≡ settled x =
-      keeps.1 ∙ ap₂ (λ (n : ℕ) (s : Share). with_changes x (publish_changes x n s)) (all ∙ ap (λ (y : NodeView K). length (node_rows y)) same) one in
-      leaves_either accepts x.start (IsSettledSome x) a b x keeps.0 refl (ap (λ (y : NodeView K). y.start) is_settled) (inl refl) (inr is_settled) keeps.2
 
   -- ---- all of it
 

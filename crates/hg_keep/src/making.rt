@@ -14,7 +14,7 @@ use hg_io::Disk;
 use hg_journal::{StoreError, Stored};
 use hg_life::MakeAnswer;
 use hg_model::{Bytes, Items, Memory, Name};
-use hg_node::{Node, stored_changes_replay};
+use hg_node::Node;
 use hg_sign::Signer;
 use std::alloc::Global;
 use std::slice;
@@ -69,14 +69,9 @@ pub fn make_next<V: Signer + Drop, D: Disk>(
     ensures cause { IsFaultCounted result StoreError.Disk (D.faults disk.old) (D.faults disk.new) stored.old.name }
     ensures never { IsErrOf result StoreError.Closed → ⊥ }
 {
-    stored_changes_replay::<V>();
-    let node = stored.node().unwrap();
-    node.is_node();
-    let Some(other) = node.next_other() else {
-        return Ok(None);
-    };
-    let answer = stored.make(disk, names_of(&other), time, b"")?;
-    Ok(Some(answer))
+    let answer = stage_next(stored, time)?;
+    stored.commit(disk)?;
+    Ok(answer)
 }
 
 /// The one name, if there is one.

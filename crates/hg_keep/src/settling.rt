@@ -8,7 +8,6 @@ ghost use Rattle.hg_keep.specs.Stops.{MovesOn, StopsLeaveOf};
 use crate::staging::{make_room, stage_settled};
 use hg_io::Disk;
 use hg_journal::{StoreError, Stored};
-use hg_model::Share;
 use hg_sign::Signer;
 
 /// Publishes all that the node's graph decides.
@@ -32,11 +31,8 @@ pub fn settle<V: Signer + Drop, D: Disk>(
     ensures cause { IsFaultCounted result StoreError.Disk (D.faults disk.old) (D.faults disk.new) stored.old.name }
     ensures never { IsErrOf result StoreError.Closed → ⊥ }
 {
-    let node = stored.node().unwrap();
-    node.is_node();
-    let rows = node.rows();
-    stored.remark(disk, rows, Share::new(0, 1))?;
-    Ok(())
+    stage_settled(stored)?;
+    stored.commit(disk)
 }
 
 /// Publishes all that the node's graph decides, and stages it.
