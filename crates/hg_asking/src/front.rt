@@ -7,7 +7,7 @@ use std::alloc::Global;
 use std::marker::Model;
 
 /// How many bytes a line may have, without its line feed.
-const LINE: usize = 1_048_576;
+pub const LINE: usize = 1_048_576;
 
 /// The front of a line, for which all memory is taken at once.
 #[derive(Drop)]

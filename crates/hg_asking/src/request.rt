@@ -3,6 +3,7 @@ ghost use Rattle.std.specs.Str.{bytes_eq};
 ghost use Rattle.hg_script.specs.Words.{ReadsAs, bytes_in};
 ghost use Rattle.hg_service.specs.Asking as spec;
 
+use crate::front::LINE;
 use crate::words::{events_in, first_in, limit_in, names_in, number_in, payload_in};
 use hg_life::Members;
 use hg_model::Stop;
@@ -10,9 +11,6 @@ use hg_reading::all_words;
 use hg_script::Why;
 use hg_service::{LineFault, ServiceRequest};
 use std::alloc::Global;
-
-/// How many bytes a line may have, without its line feed.
-const LINE: usize = 1_048_576;
 
 /// The greatest number of names of other-parents.
 const MOST_NAMES: usize = 4;

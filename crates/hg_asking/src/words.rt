@@ -3,6 +3,7 @@ ghost use Rattle.hg_life.specs.Results.{Gives};
 ghost use Rattle.hg_script.specs.Words.{ReadsAs, bytes_in, read_each};
 ghost use Rattle.hg_service.specs.Asking as spec;
 
+use crate::front::LINE;
 use hex::decode_to_slice;
 use hg_life::Members;
 use hg_model::{Bytes, Items, Name, Stop};
@@ -11,9 +12,6 @@ use hg_script::Why;
 use hg_script::argument::{digits_form, is_dash, number_of};
 use hg_service::LineFault;
 use std::alloc::Global;
-
-/// How many bytes a line may have, and so an event's digits at most.
-const LINE: usize = 1_048_576;
 
 /// How many lines an answer may have behind its first one.
 const ANSWER: u64 = 4096;

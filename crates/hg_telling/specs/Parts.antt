@@ -5,7 +5,11 @@ use Rattle.hex.specs.Hex.{encode_lower}
 use Rattle.hg_life.specs.Members.{MemberList, names_of}
 use Rattle.hg_outcome.specs.Report.{effect_text, name_of_member, with_number}
 use Rattle.hg_outcome.specs.declared.outcome.OrderLine.{OrderLine}
-use Rattle.hg_service.specs.Text.{balance_texts, digits_or_dash, lines_text, more_names, names_or_dash, ordered_text, ordered_texts, parts_of, placed_text, yes_no}
+use Rattle.hg_life.specs.declared.members.MemberEntry.{MemberEntry}
+use Rattle.hg_service.specs.Text.{balance_texts, digits_or_dash, entry_texts, line_fault_text, lines_text, more_names, names_or_dash, not_made_text, ordered_text, ordered_texts, parts_of, placed_text, refused_texts, yes_no}
+use Rattle.hg_service.specs.declared.answer.NotMade.{NotMade}
+use Rattle.hg_service.specs.declared.answer.RefusedEvent.{RefusedEvent}
+use Rattle.hg_service.specs.declared.request.LineFault.{LineFault}
 use Rattle.hg_service.specs.declared.answer.Answer.{Answer}
 use Rattle.hg_service.specs.declared.answer.Answer.TheVariants as answer
 use Rattle.hg_service.specs.declared.answer.OrderedEvent.{OrderedEvent}
@@ -25,6 +29,15 @@ counts_of a = []
 abbrev pub own_text : Option (ℕ × ℕ) → Bool → List ℕ
 own_text own impostor = codes " own " ++ placed_text own ++ codes " impostor " ++ yes_no impostor ++ codes " strange "
 
+abbrev pub state_head : Answer → Option (ℕ × ℕ) → Bool → List ℕ
+state_head a own impostor = counts_of a ++ own_text own impostor
+
+abbrev pub bad_head : LineFault → List ℕ
+bad_head why = codes "bad " ++ line_fault_text why
+
+abbrev pub not_made_head : NotMade → List ℕ
+not_made_head why = codes "refused " ++ not_made_text why
+
 abbrev pub members_head : MemberList → ℕ → List ℕ → List ℕ
 members_head members own digest =
     codes "members " ++ name_of_member (names_of members) own ++ with_number [] members.coin ++ codes " " ++ encode_lower digest
@@ -42,9 +55,16 @@ head_text members (answer.State events forkers greatest closed ordered waiting o
 head_text members (answer.Made place event) = made_head place
 head_text members a = (parts_of members a).0
 
+-- the names of members, with a comma before each, and between commas
+abbrev pub more_names_in : MemberList → List ℕ → List ℕ
+more_names_in members others = more_names (names_of members) others
+
+abbrev pub names_in : MemberList → List ℕ → List ℕ
+names_in members listed = names_or_dash (names_of members) listed
+
 -- these names, or these bytes
 abbrev pub tail_text : MemberList → Answer → List ℕ
-tail_text members (answer.State events forkers greatest closed ordered waiting own impostor strange) = names_or_dash (names_of members) strange
+tail_text members (answer.State events forkers greatest closed ordered waiting own impostor strange) = names_in members strange
 tail_text members (answer.Made place event) = encode_lower event
 tail_text members a = []
 
@@ -56,6 +76,12 @@ abbrev pub some_names : MemberList → ℕ → List ℕ → List ℕ
 some_names members first others = name_of_member (names_of members) first ++ more_names (names_of members) others
 
 -- ---- the lines that follow
+
+abbrev pub refused_lines : List RefusedEvent → List ℕ
+refused_lines events = lines_text (refused_texts events)
+
+abbrev pub entry_lines : List MemberEntry → List ℕ
+entry_lines entries = lines_text (entry_texts entries)
 
 abbrev pub balance_line : MemberList → ℕ → ℕ → List ℕ
 balance_line members member balance = with_number (name_of_member (names_of members) member) balance ++ codes "\n"
@@ -79,7 +105,8 @@ ordered_line members number event = ordered_text (names_of members) number event
 
 abbrev pub ordered_parts : MemberList → ℕ → OrderedEvent → List ℕ
 ordered_parts members number event =
-    ordered_front members number event.line ++ (encode_lower event.line.name ++ codes " ") ++ digits_or_dash event.payload ++ ordered_end event.line
+    ordered_front members number event.line ++ (encode_lower event.line.name ++ codes " ") ++ digits_or_dash event.payload
+    ++ ordered_end event.line
 
 -- the lines of these events, the first of this number
 abbrev pub ordered_lines : MemberList → ℕ → List OrderedEvent → List ℕ
@@ -100,4 +127,5 @@ further_text members a = lines_text (parts_of members a).1
 
 -- the answer's text in these parts
 abbrev pub text_in_parts : MemberList → Answer → List ℕ
-text_in_parts members a = count_text (further_count members a) ++ head_text members a ++ tail_text members a ++ codes "\n" ++ further_text members a
+text_in_parts members a =
+    count_text (further_count members a) ++ head_text members a ++ tail_text members a ++ codes "\n" ++ further_text members a

@@ -1,10 +1,10 @@
-ghost use Rattle.std.specs.Prelude.{◌≡◌, ◌++◌, codes, length};
+ghost use Rattle.std.specs.Prelude.{◌≡◌, ◌++◌, length};
 ghost use Rattle.hg_io.specs.Printing.{PutsOn};
 ghost use Rattle.hg_life.specs.Members.{names_of};
 ghost use Rattle.hg_outcome.specs.Report.{name_of_member, with_number};
 ghost use Rattle.hg_pieces.specs.Pieces.{piece_text, pieces_text};
 ghost use Rattle.hg_service.specs.Text as text;
-ghost use Rattle.hg_telling.specs.Parts.{beyond_head, counts_of, head_text, made_head, members_head, own_text};
+ghost use Rattle.hg_telling.specs.Parts.{bad_head, beyond_head, counts_of, head_text, made_head, members_head, not_made_head, own_text, state_head};
 
 use hg_io::{Failed, Page, Sink};
 use hg_life::Members;
@@ -47,7 +47,7 @@ fn not_made_parts(why: &NotMade) -> (&[u8], Piece<'_>)
 }
 
 fn write_bad<K: Sink>(page: &mut Page, sink: &mut K, fault: &LineFault) -> Result<(), Failed>
-    ensures { PutsOn K.Sink sink.old sink.new page.old page.new (codes "bad " ++ text.line_fault_text fault.now) result }
+    ensures { PutsOn K.Sink sink.old sink.new page.old page.new (bad_head fault.now) result }
 {
     write_pieces(
         page,
@@ -57,7 +57,7 @@ fn write_bad<K: Sink>(page: &mut Page, sink: &mut K, fault: &LineFault) -> Resul
 }
 
 fn write_not_made<K: Sink>(page: &mut Page, sink: &mut K, why: &NotMade) -> Result<(), Failed>
-    ensures { PutsOn K.Sink sink.old sink.new page.old page.new (codes "refused " ++ text.not_made_text why.now) result }
+    ensures { PutsOn K.Sink sink.old sink.new page.old page.new (not_made_head why.now) result }
 {
     let (word, detail) = not_made_parts(why);
     write_pieces(
@@ -227,7 +227,7 @@ fn write_state<K: Sink>(
     own: &Option<(u64, u64)>,
     impostor: bool,
 ) -> Result<(), Failed>
-    ensures { PutsOn K.Sink sink.old sink.new page.old page.new (counts_of answer.now ++ own_text own.now impostor) result }
+    ensures { PutsOn K.Sink sink.old sink.new page.old page.new (state_head answer.now own.now impostor) result }
 {
     write_counts(page, sink, answer)?;
     write_own(page, sink, own, impostor)?;

@@ -1,10 +1,10 @@
 ghost use Rattle.std.specs.Prelude.{◌≡◌, ◌++◌, codes, length};
 ghost use Rattle.hex.specs.Hex.{encode_lower};
 ghost use Rattle.hg_io.specs.Printing.{PutsOn};
-ghost use Rattle.hg_life.specs.Members.{names_of};
 ghost use Rattle.hg_service.specs.Binding.{entry_text};
 ghost use Rattle.hg_service.specs.Text as text;
-ghost use Rattle.hg_telling.specs.Parts.{balance_line, balance_lines, further_count, further_text, more_name, ordered_end, ordered_front, ordered_line, ordered_lines, ordered_parts, some_names, tail_text};
+ghost use Rattle.hg_telling.specs.Parts.{balance_line, balance_lines, entry_lines, further_count, further_text, more_name, more_names_in, names_in};
+ghost use Rattle.hg_telling.specs.Parts.{ordered_end, ordered_front, ordered_lines, ordered_parts, refused_lines, some_names, tail_text};
 
 use crate::digits::{cut_count, write_cut, write_digits, write_events, write_names};
 use crate::first::member_name;
@@ -43,7 +43,7 @@ fn write_all_refused<K: Sink>(
     sink: &mut K,
     events: &[RefusedEvent],
 ) -> Result<(), Failed>
-    ensures { PutsOn K.Sink sink.old sink.new page.old page.new (text.lines_text (text.refused_texts events.now)) result }
+    ensures { PutsOn K.Sink sink.old sink.new page.old page.new (refused_lines events.now) result }
 {
     for event in events {
         write_refused(page, sink, event)?;
@@ -112,7 +112,7 @@ fn write_entries<K: Sink>(
     sink: &mut K,
     entries: &[MemberEntry],
 ) -> Result<(), Failed>
-    ensures { PutsOn K.Sink sink.old sink.new page.old page.new (text.lines_text (text.entry_texts entries.now)) result }
+    ensures { PutsOn K.Sink sink.old sink.new page.old page.new (entry_lines entries.now) result }
 {
     for entry in entries {
         write_entry(page, sink, entry)?;
@@ -236,7 +236,7 @@ fn write_more_names<K: Sink>(
     members: &Members,
     others: &[Member],
 ) -> Result<(), Failed>
-    ensures { PutsOn K.Sink sink.old sink.new page.old page.new (text.more_names (names_of members.now) others.now) result }
+    ensures { PutsOn K.Sink sink.old sink.new page.old page.new (more_names_in members.now others.now) result }
 {
     for member in others {
         write_more_name(page, sink, members, *member)?;
@@ -266,7 +266,7 @@ fn write_listed_names<K: Sink>(
     members: &Members,
     listed: &[Member],
 ) -> Result<(), Failed>
-    ensures { PutsOn K.Sink sink.old sink.new page.old page.new (text.names_or_dash (names_of members.now) listed.now) result }
+    ensures { PutsOn K.Sink sink.old sink.new page.old page.new (names_in members.now listed.now) result }
 {
     match listed {
         [] => page.put(sink, b"-"),
