@@ -4,7 +4,7 @@
     model.py --bad MEMBERS < requests       a line for each request: the answer `0 bad WHY`, or the first word of what is a request
 
 Requests are read here, by the form of the lines alone. What a node does with them is done by the definitions in
-`bench/definitions`, which compute each answer anew and slowly. The standard library of Python 3.11 is all that is needed.
+`trials/definitions`, which compute each answer anew and slowly. The standard library of Python 3.11 is all that is needed.
 """
 
 import hashlib
@@ -14,7 +14,7 @@ import sys
 from dataclasses import dataclass, field
 
 HERE = os.path.dirname(os.path.abspath(__file__))
-sys.path.insert(0, os.path.join(HERE, "..", "..", "bench", "definitions"))
+sys.path.insert(0, os.path.join(HERE, "..", "definitions"))
 
 LONGEST_LINE = 1_048_576
 MOST_LINES = 4096
