@@ -1,5 +1,5 @@
 -- What a reader of lines finds, and what it hears
-use Rattle.std.proofs.Common.{◌≡◌, ℕ, Bool, true, false, ◌+◌, List, [], ◌∷◌, ◌++◌, take, drop, Option, Some, None, Result, Ok, Err, refl, sym, ap, ◌∙◌, arith}
+use Rattle.std.proofs.Common.{◌<◌, ◌≡◌, length, ℕ, Bool, true, false, ◌+◌, List, [], ◌∷◌, ◌++◌, take, drop, Option, Some, None, Result, Ok, Err, refl, sym, ap, ◌∙◌, arith}
 use Rattle.std.specs.Prelude.{is_some, IfOk, IfSome, OnErr}
 use Rattle.std.specs.List.{position}
 use Rattle.std.proofs.lemmas.Bool.{lt-ltb}
@@ -65,10 +65,11 @@ module _ (is_found : Bool) (front : FrontView) (ahead : List ℕ) (within : IsIn
   none_taken before (Some rest) taken = sym taken
 
   pub hears : {E : Type 0} (before after : Option (List ℕ)) (piece : List ℕ) (r : Result Bool E) → has_line (reader_of is_found front ahead) ≡ false
-      → TakesOff before after piece → IfOk r (λ some. some ≡ false → IfSome after (λ rest. rest ≡ [])) → IfOk r (λ some. some ≡ false → piece ≡ [])
+      → TakesOff before after piece → IfOk r (λ some. some ≡ true → 0 < length piece) → IfOk r (λ some. some ≡ false → IfSome after (λ rest. rest ≡ [])) → IfOk r (λ some. some ≡ false → piece ≡ [])
       → OnErr r (piece ≡ [])
       → Hears before after (reader_of is_found front ahead) (reader_of false (with_part now ahead) piece) r
-  hears before after piece (Ok true) none taken ended nothing failed = (piece, taken, goes_behind piece none)
-  hears before after piece (Ok false) none taken ended nothing failed =
+  hears before after piece (Ok true) none taken came ended nothing failed =
+      record { bytes = piece; taken = taken; behind = goes_behind piece none; some = λ _. came refl }
+  hears before after piece (Ok false) none taken came ended nothing failed =
       (none_taken before after (rw (nothing refl) at taken), ended refl, rw (nothing refl) (goes_behind [] none))
-  hears before after piece (Err e) none taken ended nothing failed = (none_taken before after (rw failed at taken), rw failed (goes_behind [] none))
+  hears before after piece (Err e) none taken came ended nothing failed = (none_taken before after (rw failed at taken), rw failed (goes_behind [] none))

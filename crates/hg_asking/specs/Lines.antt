@@ -1,5 +1,5 @@
 -- What a reader of lines stands for: the lines that it finds in the bytes to come
-use Rattle.std.specs.Prelude.{◌≡◌, ℕ, ◌+◌, Bool, true, false, nat_lt, if◌then◌else◌, All, List, [], ◌∷◌, ◌++◌, length, map, Option, Some, None, IfSome, Result, Ok, Err}
+use Rattle.std.specs.Prelude.{◌≡◌, ℕ, ◌+◌, ◌<◌, Bool, true, false, nat_lt, if◌then◌else◌, All, List, [], ◌∷◌, ◌++◌, length, map, Option, Some, None, IfSome, Result, Ok, Err}
 use Rattle.hg_io.specs.Bytes.{TakesOff}
 use Rattle.hg_script.specs.Script.{is_line_feed}
 use Rattle.hg_life.specs.Members.{MemberList}
@@ -100,9 +100,16 @@ Finds old new None = (has_line old ≡ false) × (new ≡ old)
 abbrev pub IsBehind : ReaderView → ReaderView → List ℕ → Type 0
 IsBehind old new bytes = (more : List ℕ) → lines_after new more ≡ lines_after old (bytes ++ more)
 
--- some bytes of the source were read; or none, at its end or at a fault
+-- these bytes were read; some, where no whole line was there
+pub record HearsSome (before after : Option (List ℕ)) (old new : ReaderView) : Type 0 where
+  pub bytes : List ℕ
+  pub taken : TakesOff before after bytes
+  pub behind : IsBehind old new bytes
+  pub some : has_line old ≡ false → 0 < length bytes
+
+-- bytes of the source were read; or none, at its end or at a fault
 abbrev pub Hears : {E : Type 0} → Option (List ℕ) → Option (List ℕ) → ReaderView → ReaderView → Result Bool E → Type 0
-Hears before after old new (Ok true) = (bytes : List ℕ) × TakesOff before after bytes × IsBehind old new bytes
+Hears before after old new (Ok true) = HearsSome before after old new
 Hears before after old new (Ok false) = (after ≡ before) × IfSome after (λ rest. rest ≡ []) × IsBehind old new []
 Hears before after old new (Err e) = (after ≡ before) × IsBehind old new []
 

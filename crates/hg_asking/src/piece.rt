@@ -1,4 +1,4 @@
-ghost use Rattle.std.specs.Prelude.{◌≡◌, ◌≤◌, false, [], drop, length, IfOk, IfSome, OnErr};
+ghost use Rattle.std.specs.Prelude.{◌≡◌, ◌<◌, ◌≤◌, true, false, [], drop, length, IfOk, IfSome, OnErr};
 ghost use Rattle.hg_io.specs.Bytes.{TakesOff};
 ghost use Rattle.hg_io.specs.Faults.{Rose};
 
@@ -57,6 +57,7 @@ impl Piece {
     /// there are none.
     pub fn read<S: Source>(&mut self, source: &mut S) -> Result<bool, Failed>
         ensures next { TakesOff (S.left source.old) (S.left source.new) self.new }
+        ensures some { IfOk result (λ some. some ≡ true → 0 < length self.new) }
         ensures end { IfOk result (λ some. some ≡ false → IfSome (S.left source.new) (λ rest. rest ≡ [])) }
         ensures none { IfOk result (λ some. some ≡ false → self.new ≡ []) }
         ensures failed { OnErr result (self.new ≡ []) }
