@@ -1,8 +1,13 @@
 -- How the rows beyond some names are found: a flag for each row, of which those from a place on are looked at
-use Rattle.std.specs.Prelude.{ℕ, ◌≡◌, ◌<◌, ◌≤◌, Bool, false, ◌&&◌, nat_le, not, List, get_or, length, take}
+use Rattle.std.specs.Prelude.{ℕ, ◌≡◌, ◌<◌, ◌≤◌, Bool, false, ◌&&◌, nat_le, not, List, get_or, length, map, take}
+use Rattle.hg_model.specs.Links.{parent_names, place_of}
 use Rattle.hg_model.specs.Places.{list_below}
 use Rattle.hg_model.specs.declared.row.Row.{Row}
 use Rattle.hg_node.specs.Beyond.{bytes_at, is_behind_some}
+
+-- the places of the rows that a row names as its parents
+abbrev pub named_places : List Row → Row → List ℕ
+named_places G row = map (place_of G) (parent_names row.parents)
 
 -- from this place on those rows are flagged that are ancestors of a row with one of these names
 pub record AreFlaggedFrom (G : List Row) (names : List (List ℕ)) (start : ℕ) (flags : List Bool) : Type 0 where

@@ -11,6 +11,10 @@ use Rattle.hg_life.specs.Verdict.{last_name}
 use Rattle.hg_service.specs.Binding.{is_strange}
 use Rattle.hg_answering.specs.Telling.{has_payload}
 
+-- how many self-ancestors each row has, other than itself
+abbrev pub sequences_in : List Row → List ℕ
+sequences_in G = table (sequence_of (links G)) (length G)
+
 -- of each member the name of its last row, and whether it is strange; of each row how many self-ancestors it has, other than
 -- itself; and how many rows have a payload
 pub record RowNotesView : Type 0 where
@@ -31,6 +35,13 @@ first_notes bound count G len = record {
 -- .. of all of them
 abbrev pub notes_of : List ℕ → ℕ → List Row → RowNotesView
 notes_of bound count G = first_notes bound count G (length G)
+
+-- the same of a graph's rows
+abbrev pub noted_in : List ℕ → Graph → ℕ → RowNotesView
+noted_in bound g len = first_notes bound (member_count g.members) g.rows len
+
+abbrev pub all_noted_in : List ℕ → Graph → RowNotesView
+all_noted_in bound g = notes_of bound (member_count g.members) g.rows
 
 -- these are the notes of as many first rows of the graph as have a number
 pub record AreFirst (bound : List ℕ) (g : Graph) (notes : RowNotesView) : Type 0 where

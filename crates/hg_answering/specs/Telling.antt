@@ -85,6 +85,10 @@ events_told v from limit = answer.Events (length (node_rows v)) (window from lim
 abbrev pub ordered_event : List Row → List Link → Placed × Effect → OrderedEvent
 ordered_event G L x = record { line = order_line G L x.0 x.1; payload = (get_or G x.0.place no_row).payload }
 
+-- the same of a node's rows
+abbrev pub ordered_here : {K : Type 0} → NodeView K → Placed → Effect → OrderedEvent
+ordered_here v p e = ordered_event (node_rows v) (links (node_rows v)) (p, e)
+
 -- the order with what came of each event
 abbrev pub ordered_events : {K : Type 0} → NodeView K → List OrderedEvent
 ordered_events v = map (ordered_event (node_rows v) (links (node_rows v))) (zip (kept_of v) (book_kept v).effects)

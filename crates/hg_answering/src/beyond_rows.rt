@@ -1,9 +1,9 @@
-ghost use Rattle.std.specs.Prelude.{◌≡◌, ◌<◌, ◌≤◌, [], ◌∷◌, false, IfOk, length, map, replicate, take};
+ghost use Rattle.std.specs.Prelude.{◌≡◌, ◌<◌, ◌≤◌, [], ◌∷◌, false, IfOk, length, map, replicate};
 ghost use Rattle.hg_event.specs.Names.{lent_names};
 ghost use Rattle.hg_event.specs.View.{row_of};
-ghost use Rattle.hg_model.specs.Links.{links, parent_names, parents, place_of};
+ghost use Rattle.hg_model.specs.Links.{links, parents, place_of};
 ghost use Rattle.hg_node.specs.Beyond.{flagged, parents_if_flagged};
-ghost use Rattle.hg_answering.specs.Beyond.{AreFlaggedFrom, BeginWith, beyond_flagged};
+ghost use Rattle.hg_answering.specs.Beyond.{AreFlaggedFrom, BeginWith, beyond_flagged, named_places};
 ghost use Rattle.hg_answering.specs.Telling.{beyond_told};
 
 use crate::told::copied;
@@ -48,7 +48,7 @@ fn flag_lent(graph: &EventGraph, names: &[&Name], flags: &mut [bool])
 /// Flags the rows that an event names as its parents, if it names some.
 fn flag_named_parents(graph: &EventGraph, view: &EventView<'_>, flags: &mut [bool])
     requires { length flags.old ≡ length graph.now.graph.rows }
-    ensures { flags.new ≡ flagged flags.old (map (place_of graph.now.graph.rows) (parent_names (row_of view.now).parents)) }
+    ensures { flags.new ≡ flagged flags.old (named_places graph.now.graph.rows (row_of view.now)) }
 {
     if let Some(names) = view.parents {
         flag_named(graph, names.self_parent, flags);

@@ -1,4 +1,4 @@
-ghost use Rattle.std.specs.Prelude.{◌≡◌, IfOk, OnErr, OnOk};
+ghost use Rattle.std.specs.Prelude.{OnOk};
 ghost use Rattle.hg_answering.specs.Notes.{AreLagging, AreNoted};
 
 use crate::notes::Notes;

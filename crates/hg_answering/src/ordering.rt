@@ -1,10 +1,8 @@
-ghost use Rattle.std.specs.Prelude.{◌≡◌, ◌<◌, ◌≤◌, ◌-◌, IfOk, OnOk, Some, get_or, length, slice_get};
-ghost use Rattle.hg_model.specs.Links.{links};
-ghost use Rattle.hg_model.specs.Order.{sequence_of};
-ghost use Rattle.hg_model.specs.Places.{table};
+ghost use Rattle.std.specs.Prelude.{◌≡◌, ◌<◌, ◌≤◌, ◌-◌, IfOk, OnOk, length};
 ghost use Rattle.hg_life.specs.NodeView.{kept_of, node_rows};
 ghost use Rattle.hg_answering.specs.Notes.{AreNoted};
-ghost use Rattle.hg_answering.specs.Telling.{order_told, ordered_event, ordered_events, window};
+ghost use Rattle.hg_answering.specs.RowNotes.{sequences_in};
+ghost use Rattle.hg_answering.specs.Telling.{order_told, ordered_events, ordered_here, window};
 
 use crate::notes::Notes;
 use crate::told::{copied, window_of};
@@ -24,10 +22,10 @@ fn ordered_event<V: Signer>(
     placed: Placed,
     effect: Effect,
 ) -> Result<OrderedEvent, Memory>
-    requires sequences { sequences.now ≡ table (sequence_of (links (node_rows node.now))) (length (node_rows node.now)) }
+    requires sequences { sequences.now ≡ sequences_in (node_rows node.now) }
     requires place { placed.place < length (node_rows node.now) }
     requires counted { placed.place < length sequences.now }
-    ensures { IfOk result (λ event. event ≡ ordered_event (node_rows node.now) (links (node_rows node.now)) (placed, effect)) }
+    ensures { IfOk result (λ event. event ≡ ordered_here node.now placed effect) }
 {
     let row = node.row(placed.place);
     let payload = copied(alloc, row.payload.as_slice())?;
@@ -50,7 +48,7 @@ fn ordered_between<V: Signer>(
     start: usize,
     end: usize,
 ) -> Result<Vec<OrderedEvent>, Memory>
-    requires sequences { sequences.now ≡ table (sequence_of (links (node_rows node.now))) (length (node_rows node.now)) }
+    requires sequences { sequences.now ≡ sequences_in (node_rows node.now) }
     requires ordered { start ≤ end }
     requires within { end ≤ length (kept_of node.now) }
     ensures events { IfOk result (λ events. events.items ≡ window start (end - start) (ordered_events node.now)) }

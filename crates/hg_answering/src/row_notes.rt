@@ -1,10 +1,9 @@
-ghost use Rattle.std.specs.Prelude.{◌≡◌, ◌<◌, ◌≤◌, ◌+◌, [], IfOk, None, Some, OnErr, OnOk, cond, length, slice_set, take};
+ghost use Rattle.std.specs.Prelude.{◌≡◌, ◌<◌, ◌≤◌, ◌+◌, [], IfOk, None, Some, OnErr, OnOk, cond, length, slice_set};
 ghost use Rattle.hg_answering.specs.Telling.{has_payload};
 ghost use Rattle.hg_model.specs.Order.{sequence_of};
 ghost use Rattle.hg_model.specs.Places.{table};
-ghost use Rattle.hg_model.specs.Stakes.{member_count};
 ghost use Rattle.hg_answering.specs.Told.{members_flagged, names_there};
-ghost use Rattle.hg_answering.specs.RowNotes.{AreFirst, first_notes, notes_of, with_unbound};
+ghost use Rattle.hg_answering.specs.RowNotes.{AreFirst, all_noted_in, first_notes, noted_in, with_unbound};
 
 use crate::told::{members_flagged, names_there};
 use hg_graph::EventGraph;
@@ -94,9 +93,9 @@ impl RowNotes {
     /// Notes row `x`, where the rows before it are noted.
     fn note(&mut self, bound: &[u8], graph: &EventGraph, x: usize) -> Result<(), Memory>
         requires place { x < length graph.now.graph.rows }
-        requires noted { self.old ≡ first_notes bound.now (member_count graph.now.graph.members) graph.now.graph.rows x }
+        requires noted { self.old ≡ noted_in bound.now graph.now.graph x }
         ensures noted { OnOk result
-            (self.new ≡ first_notes bound.now (member_count graph.now.graph.members) graph.now.graph.rows (x + 1)) }
+            (self.new ≡ noted_in bound.now graph.now.graph (x + 1)) }
         ensures same { OnErr result (self.new ≡ self.old) }
     {
         is_of_graph(graph);
@@ -112,7 +111,7 @@ impl RowNotes {
     /// Notes the rows that came since; some first ones of them, where memory runs out.
     pub(crate) fn follow(&mut self, bound: &[u8], graph: &EventGraph) -> Result<(), Memory>
         requires { AreFirst bound.now graph.now.graph self.old }
-        ensures noted { OnOk result (self.new ≡ notes_of bound.now (member_count graph.now.graph.members) graph.now.graph.rows) }
+        ensures noted { OnOk result (self.new ≡ all_noted_in bound.now graph.now.graph) }
         ensures first { AreFirst bound.now graph.now.graph self.new }
     {
         for x in self.sequences.len()..graph.len() {

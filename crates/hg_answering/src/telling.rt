@@ -1,22 +1,18 @@
-ghost use Rattle.std.specs.Prelude.{◌≡◌, ◌<◌, ◌≤◌, ◌-◌, IfOk, get_or, length, map};
-ghost use Rattle.hg_model.specs.Links.{links};
-ghost use Rattle.hg_model.specs.Order.{sequence_of};
-ghost use Rattle.hg_model.specs.Places.{table};
+ghost use Rattle.std.specs.Prelude.{◌≡◌, ◌<◌, ◌≤◌, ◌-◌, IfOk, length, map};
 ghost use Rattle.hg_life.specs.NodeView.{kept_of, node_rows};
 ghost use Rattle.hg_life.specs.Spelling.{spelling};
 ghost use Rattle.hg_answering.specs.Answering.{TellsProof};
 ghost use Rattle.hg_answering.specs.Notes.{AreNoted};
-ghost use Rattle.hg_answering.specs.Telling.{balances_told, events_told, heads, last_told, order_told, ordered_events, state_told, waiting, window};
+ghost use Rattle.hg_answering.specs.Telling.{balances_told, events_told, heads, last_told, state_told, waiting, window};
 ghost use Rattle.hg_service.specs.declared.answer.Answer.TheVariants as answer;
 
 use crate::notes::Notes;
 use crate::told::{copied, window_of};
 use hg_life::Members;
-use hg_model::{Bytes, Items, Memory, Row};
+use hg_model::{Bytes, Items, Memory};
 use hg_node::Node;
-use hg_outcome::OrderLine;
 use hg_proof::certificate;
-use hg_service::{Answer, OrderedEvent};
+use hg_service::Answer;
 use hg_sign::Signer;
 use std::alloc::Global;
 
